@@ -1,0 +1,152 @@
+-- Laws of bits: one more bit, a bound, the end of the bytes.
+use mathlib.Core.Path.{_≡_, refl, sym, ap, ap₂, _∙_, subst}
+use mathlib.Core.List.{List, [], _∷_, _++_}
+use Prim.Native.Nat.{ℕ, zero, suc, _+_, _-_, _*_, _/_, _%_, _^_, _≤_, _<_}
+use native.Mathlib.Nat.{mod-lt, zero-div, zero-mod, pow-suc, mod-one, div-one, add-zero, add-assoc, mod-eq-of-lt, add-suc, mul-assoc, one-mul}
+use native.Mathlib.Numerals.{add-one, one-add}
+use native.Mathlib.Omega.{arith}
+use lib.Dec.{lit<}
+use lib.Seq.{ext-getD, paste, length-paste-head, length-take-le, getD-append-add, getD-take}
+use Rattle.laws.proofs.TableLaws.{table-at, table-length}
+use lib.Pow.{pow-mono, mod-pow-add, shr-shr, high, low}
+use lib.Arith.{digits-div, digits-mod}
+use lib.ListN.{length, getD, set, drop, take, List·getD-eq-default, List·getD-append}
+use Rattle.bits.specs.Bits.{bitAt, val, digit, field, packed, bitOf}
+
+pub bit-lt : (s : List ℕ) (i : ℕ) → bitAt s i < 2
+unfolding bitAt
+bit-lt s i = mod-lt _ (lit< tt)
+
+pub bit-past : (s : List ℕ) (i : ℕ) → length s ≤ i / 8 → 0 ≡ bitAt s i
+unfolding bitAt
+bit-past s i h = sym (simp (List·getD-eq-default s 0 h, zero-div, zero-mod))
+
+pub val-more : (f : ℕ → ℕ) (at i : ℕ) → val f at i * 2 + f (at + i) ≡ val f at (i + 1)
+unfolding val
+val-more f at i = rw (add-one i)
+
+pub val-lt : (f : ℕ → ℕ) (at n : ℕ) → ((j : ℕ) → f j < 2) → val f at n < 2 ^ n
+unfolding val
+val-lt f at zero h = lit< tt
+val-lt f at (suc n) h = omega (arith, val-lt f at n h, h (at + n), pow-suc 2 n)
+
+pub bits-lt : (s : List ℕ) (at n : ℕ) → val (bitAt s) at n < 2 ^ n
+bits-lt s at n = val-lt (bitAt s) at n (bit-lt s)
+
+pub bits-small : (s : List ℕ) (at n m : ℕ) → n ≤ m → val (bitAt s) at n < 2 ^ m
+bits-small s at n m h = omega (arith, bits-lt s at n, pow-mono h)
+
+-- the bits of v make v again
+pub val-digits : (f : ℕ → ℕ) (at v m d : ℕ) → ((i : ℕ) → i < m → f (at + i) ≡ v / 2 ^ (m + d - 1 - i) % 2) → val f at m ≡ v / 2 ^ d % 2 ^ m
+unfolding val
+val-digits f at v zero d h = sym (mod-one _)
+val-digits f at v (suc m) d h =
+    let before : val f at m ≡ v / 2 ^ d / 2 % 2 ^ m =
+    val-digits f at v m (d + 1) (λ i l. h i (omega arith) ∙ ap (λ (x : ℕ). v / 2 ^ x % 2) (omega arith))
+    ∙ ap (λ (x : ℕ). x % 2 ^ m) (sym (shr-shr v d 1))
+    in
+    ap₂ (λ (x y : ℕ). x * 2 + y) before (h m (omega arith) ∙ ap (λ (x : ℕ). v / 2 ^ x % 2) (omega arith))
+    ∙ sym (ap (λ (x : ℕ). v / 2 ^ d % 2 ^ x) (sym (add-one m)) ∙ mod-pow-add (v / 2 ^ d) m 1)
+
+pub val-field : (f : ℕ → ℕ) (at n v : ℕ) → v < 2 ^ n → ((i : ℕ) → i < n → f (at + i) ≡ digit n v i) → val f at n ≡ v
+val-field f at n v b h =
+    val-digits f at v n 0 (λ i l. h i l ∙ ap (λ (x : ℕ). v / 2 ^ (x - 1 - i) % 2) (sym (add-zero n))) ∙ ap (λ (x : ℕ). x % 2 ^ n) (div-one v)
+    ∙ mod-eq-of-lt b
+
+-- a bit of a number made of bits
+pub val-shift : (f : ℕ → ℕ) (at n d : ℕ) → ((j : ℕ) → f j < 2) → val f at (n + d) / 2 ^ d ≡ val f at n
+unfolding val
+val-shift f at n zero h = div-one _ ∙ ap (val f at) (add-zero n)
+val-shift f at n (suc d) h =
+    ap₂ (λ (x y : ℕ). val f at x / 2 ^ y) (add-suc n d) (sym (one-add d))
+    ∙ sym (shr-shr (val f at (suc (n + d))) 1 d)
+    ∙ ap (λ (x : ℕ). x / 2 ^ d) (digits-div (val f at (n + d)) (h (at + (n + d))))
+    ∙ val-shift f at n d h
+
+pub val-bit : (f : ℕ → ℕ) (at n d : ℕ) → ((j : ℕ) → f j < 2) → val f at (n + 1 + d) / 2 ^ d % 2 ≡ f (at + n)
+unfolding val
+val-bit f at n d h =
+    ap (λ (x : ℕ). x % 2) (val-shift f at (n + 1) d h ∙ ap (val f at) (add-one n)) ∙ digits-mod (val f at n) (h (at + n))
+
+-- bits after bits, and n bits out of many
+pub val-append : (f : ℕ → ℕ) (at m n : ℕ) → val f at (m + n) ≡ val f at m * 2 ^ n + val f (at + m) n
+unfolding val
+val-append f at m zero = ap (val f at) (add-zero m) ∙ omega arith
+val-append f at m (suc n) =
+    let x = val f at m in
+    ap (val f at) (add-suc m n)
+    ∙ ap₂ (λ (a b : ℕ). a * 2 + f b) (val-append f at m n) (sym (add-assoc at m n))
+    ∙ omega (arith, ap (λ (y : ℕ). x * y) (pow-suc 2 n), mul-assoc x (2 ^ n) 2)
+
+pub val-part : (f : ℕ → ℕ) (at a n d : ℕ) → ((j : ℕ) → f j < 2) → val f at (a + n + d) / 2 ^ d % 2 ^ n ≡ val f (at + a) n
+val-part f at a n d h =
+    ap (λ (x : ℕ). x % 2 ^ n) (val-shift f at (a + n) d h ∙ val-append f at a n) ∙ low (val f at a) n (val-lt f (at + a) n h)
+
+-- the bits of packed bytes are the bits
+pub packed-bit : (f : ℕ → ℕ) (m i : ℕ) → ((j : ℕ) → f j < 2) → i < 8 * m → bitAt (packed f m) i ≡ f i
+unfolding bitAt
+packed-bit f m i h l =
+    ap (λ (x : ℕ). x / 2 ^ (7 - i % 8) % 2) (table-at (λ k. val f (8 * k) 8) m (i / 8) (omega arith))
+    ∙ ap (λ (x : ℕ). val f (8 * (i / 8)) x / 2 ^ (7 - i % 8) % 2) (omega arith)
+    ∙ val-bit f (8 * (i / 8)) (i % 8) (7 - i % 8) h
+    ∙ ap f (omega arith)
+
+byte-bit : (s : List ℕ) (k i : ℕ) → i < 8 → bitAt s (8 * k + i) ≡ digit 8 (getD s k 0) i
+unfolding bitAt
+byte-bit s k i l =
+    ap₂ (λ (x y : ℕ). getD s x 0 / 2 ^ y % 2) (omega arith) (omega arith)
+
+pub byte-val : (s : List ℕ) (k : ℕ) → getD s k 0 < 256 → val (bitAt s) (8 * k) 8 ≡ getD s k 0
+byte-val s k h = val-field (bitAt s) (8 * k) 8 (getD s k 0) h (byte-bit s k)
+
+-- three bytes from byte k on
+module _ (s : List ℕ) (k : ℕ) {x y z : ℕ} (ex : x ≡ getD s k 0) (ey : y ≡ getD s (k + 1) 0) (ez : z ≡ getD s (k + 2) 0) (hx : x < 256)
+    (hy : y < 256) (hz : z < 256) where
+  three-val : x * 65536 + y * 256 + z ≡ val (bitAt s) (8 * k) 24
+  three-val =
+      let f = bitAt s in
+      let a : val f (8 * k) 8 ≡ x = byte-val s k (omega arith) ∙ sym ex in
+      let b : val f (8 * k + 8) 8 ≡ y =
+      ap (λ (i : ℕ). val f i 8) (omega arith) ∙ byte-val s (k + 1) (omega arith) ∙ sym ey
+      in
+      let c : val f (8 * k + 16) 8 ≡ z =
+      ap (λ (i : ℕ). val f i 8) (omega arith) ∙ byte-val s (k + 2) (omega arith) ∙ sym ez
+      in
+      omega (arith, val-append f (8 * k) 16 8, val-append f (8 * k) 8 8)
+
+  -- hold the field of n bits that begins in byte k
+  pub field-read : (at n : ℕ) → at / 8 ≡ k → n ≤ 14
+      → (x * 65536 + y * 256 + z) / 2 ^ (24 - at % 8 - n) % 2 ^ n ≡ val (bitAt s) at n
+  field-read at n e h =
+      let d = 24 - at % 8 - n in
+      let w : 24 ≡ at % 8 + n + d = omega arith in
+      let g : 8 * k + at % 8 ≡ at = omega arith in
+      ap (λ (v : ℕ). v / 2 ^ d % 2 ^ n) (three-val ∙ ap (val (bitAt s) (8 * k)) w)
+      ∙ val-part (bitAt s) (8 * k) (at % 8) n d (bit-lt s)
+      ∙ ap (λ (i : ℕ). val (bitAt s) i n) g
+
+-- 1 << n
+pub shifted : (n : ℕ) → n ≤ 14 → 1 * 2 ^ n % 18446744073709551616 ≡ 2 ^ n
+shifted n h = ap (λ (y : ℕ). y % 18446744073709551616) (one-mul (2 ^ n)) ∙ mod-eq-of-lt (omega (arith, pow-mono h))
+
+-- bytes packed again from their own bits
+pub packed-again : (s : List ℕ) → ((i : ℕ) → getD s i 0 < 256) → packed (bitAt s) (length s) ≡ s
+packed-again s h =
+    ext-getD 0 _ _ (table-length _ 0 (length s))
+    (λ k l.
+    table-at (λ j. val (bitAt s) (8 * j) 8) (length s) k (subst (λ (x : ℕ). k < x) (table-length _ 0 (length s)) l)
+    ∙ val-field (bitAt s) (8 * k) 8 (getD s k 0) (h k) (byte-bit s k))
+
+-- what was pasted is read back
+pub paste-inside : (d : List ℕ) (at : ℕ) (s : List ℕ) (n i : ℕ) → at ≤ length d → n ≤ length s → i < n → getD (paste d at s n) (at + i) 0 ≡ getD s i 0
+paste-inside d at s n i hd hs l =
+    List·getD-append (take at d ++ take n s) (drop (at + n) d) 0 (at + i) (omega (arith, length-paste-head d at s n hd hs))
+    ∙ ap (λ (x : ℕ). getD (take at d ++ take n s) (x + i) 0) (sym (length-take-le at d hd))
+    ∙ getD-append-add (take at d) (take n s) i 0
+    ∙ getD-take n s i 0 l
+
+-- a field that stands in the bits is read from the packed bytes
+pub read-back : (bs : List ℕ) (m at n v : ℕ) → ((i : ℕ) → getD bs i 0 < 2) → at + n ≤ 8 * m → v < 2 ^ n
+    → ((i : ℕ) → i < n → getD bs (at + i) 0 ≡ digit n v i) → val (bitAt (packed (bitOf bs) m)) at n ≡ v
+read-back bs m at n v small room b h =
+    val-field (bitAt (packed (bitOf bs) m)) at n v b (λ i l. packed-bit (bitOf bs) m (at + i) small (omega arith) ∙ h i l)

@@ -1,0 +1,20 @@
+// The four counters that document 002 lists apart, and the answer of a call.
+// Each counter is a type of its own, so that none is taken for another; a number is taken out of one only where a step defines it.
+
+// The number of a bit in its channel, counted from 1.
+pub struct BitNumber(pub u32);
+
+// The number of a transport channel (TrCH), counted from 1.
+pub struct TrchNumber(pub u32);
+
+// The number of a physical channel (PhCH) in its slot, counted from 1.
+pub struct PhchNumber(pub u32);
+
+// The frame number, 0 to 255.
+pub struct FrameNumber(pub u32);
+
+// A call's number, 0 where it is accepted, and how many values it wrote; with number 12 the index of the first bad value.
+pub struct Answer {
+    pub number: u32,
+    pub at: u64,
+}

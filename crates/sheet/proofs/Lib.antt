@@ -1,0 +1,4 @@
+pub mod SlotLaws
+pub mod FieldLaws
+pub mod SizeLaws
+pub mod NumberLaws

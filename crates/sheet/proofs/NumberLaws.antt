@@ -1,0 +1,90 @@
+-- What the number 0 says of a sheet, and the answers of reading.
+use mathlib.Core.Path.{_≡_, sym, ap, ap₂, _∙_}
+use mathlib.Core.Bool.{Bool, true, false, not, _||_}
+use mathlib.Core.List.{List}
+use Prim.Native.Nat.{ℕ, _-_, _*_}
+use borrow.Author.Tests.{eq-eqb, ne-eqb, eqb-true, eqb-false, not-false}
+use lib.Dec.{ltb, eqb, lit<}
+use lib.ListN.{length}
+use Rattle.laws.proofs.TestLaws.{or-left, or-right}
+use Rattle.counters.specs.Lines.{firstOf, given}
+use Rattle.counters.proofs.LineLaws.{Numbered, none, more, pass-zero, given-yes, given-no}
+use Rattle.bits.specs.Bits.{bitsAt}
+use Rattle.sheet.specs.Counts.{mostBits}
+use Rattle.sheet.specs.Layout.{spareAt, spareWidth}
+use Rattle.sheet.specs.Fields.{sheetOf, blank}
+use Rattle.sheet.specs.Sizes.{equalisedAll, capacityAll, bitsNeeded, bytesNeeded}
+use Rattle.sheet.specs.Numbers.{emptyPlace, silent, wrongLength, spareSet, paddingSet, misfit, loadLines, readLines, readNumber, readAnswer}
+use Rattle.sheet.specs.declared.Sheet.{Sheet}
+use Rattle.sheet.specs.declared.SheetAnswer.{SheetAnswer}
+
+pub load-numbered : (sh : Sheet) → Numbered (loadLines sh)
+load-numbered sh = more (lit< tt) (more (lit< tt) (more (lit< tt) (more (lit< tt) none)))
+
+-- what the lines from 5 on leave
+pub record Loads (sh : Sheet) : Type 0 where
+  pub places : emptyPlace sh ≡ false
+  pub sizes : ltb mostBits (equalisedAll sh) ≡ false
+  pub capacity : ltb mostBits (capacityAll sh) ≡ false
+  pub heard : silent sh ≡ false
+
+pub loads-zero : (sh : Sheet) → firstOf (loadLines sh) ≡ 0 → Loads sh
+loads-zero sh h =
+    let a = pass-zero (emptyPlace sh) 4 _ h in
+    let b = pass-zero (ltb mostBits (equalisedAll sh)) 5 _ (a .1) in
+    let c = pass-zero (ltb mostBits (capacityAll sh)) 6 _ (b .1) in
+    let d = pass-zero (silent sh) 7 0 (c .1) in
+    record { places = a .0; sizes = b .0; capacity = c .0; heard = d .0 }
+
+-- what an accepted sheet has
+pub record Readable (s : List ℕ) : Type 0 where
+  pub long : ltb (length s) 2 ≡ false
+  pub version : sheetOf s .version ≡ 1
+  pub some : sheetOf s .slots ≡ 0 → ⊥
+  pub exact : length s ≡ bytesNeeded (sheetOf s)
+  pub spare : bitsAt s spareAt spareWidth ≡ 0
+  pub padding : bitsAt s (bitsNeeded (sheetOf s)) (8 * length s - bitsNeeded (sheetOf s)) ≡ 0
+  pub loads : firstOf (loadLines (sheetOf s)) ≡ 0
+
+pub readable : (s : List ℕ) → readNumber s ≡ 0 → Readable s
+readable s h =
+    let sh = sheetOf s in
+    let a = pass-zero (ltb (length s) 2) 0 _ h in
+    let b = pass-zero (not (eqb (sh .version) 1)) 1 _ (a .1) in
+    let c = pass-zero (eqb (sh .slots) 0) 2 _ (b .1) in
+    let d = pass-zero (misfit s) 3 _ (c .1) in
+    let m = or-right (wrongLength s) (spareSet s || paddingSet s) (d .0) in
+    record {
+      long = a .0;
+      version = eqb-true (sh .version) 1 (not-false _ (b .0));
+      some = eqb-false (sh .slots) 0 (c .0);
+      exact = eqb-true (length s) (bytesNeeded sh) (not-false _ (or-left (wrongLength s) (spareSet s || paddingSet s) (d .0)));
+      spare = eqb-true (bitsAt s spareAt spareWidth) 0 (not-false _ (or-left (spareSet s) (paddingSet s) m));
+      padding = eqb-true _ 0 (not-false _ (or-right (spareSet s) (paddingSet s) m));
+      loads = d .1;
+    }
+
+pub number-zero : (s : List ℕ) → Readable s → readNumber s ≡ 0
+number-zero s r =
+    let e2 : not (eqb (sheetOf s .version) 1) ≡ false = ap not (eq-eqb (sheetOf s .version) 1 (r .version)) in
+    let e3 : eqb (sheetOf s .slots) 0 ≡ false = ne-eqb (sheetOf s .slots) 0 (r .some) in
+    let e4 : misfit s ≡ false =
+    ap₂ _||_ (ap not (eq-eqb (length s) (bytesNeeded (sheetOf s)) (r .exact)))
+    (ap₂ _||_ (ap not (eq-eqb (bitsAt s spareAt spareWidth) 0 (r .spare))) (ap not (eq-eqb _ 0 (r .padding))))
+    in
+    simp (r .long, e2, e3, e4) (r .loads)
+
+-- the answers
+made : (n m : ℕ) (a b : Sheet) → n ≡ m → a ≡ b → _≡_ {A = SheetAnswer} (record { number = n; sheet = a }) (record { number = m; sheet = b })
+made n m a b p q = rw (p, q)
+
+pub accepted : (s : List ℕ) (n : ℕ) (sh : Sheet) → n ≡ readNumber s → n ≡ 0 → sh ≡ sheetOf s
+    → _≡_ {A = SheetAnswer} (record { number = n; sheet = sh }) (readAnswer s)
+accepted s n sh p z e =
+    made n (readNumber s) sh (given (readNumber s) (sheetOf s) blank) p (e ∙ sym (given-yes (readNumber s) (sheetOf s) blank (sym p ∙ z)))
+
+pub refused : (s : List ℕ) (n : ℕ) (sh : Sheet) → n ≡ readNumber s → (n ≡ 0 → ⊥) → sh ≡ blank
+    → _≡_ {A = SheetAnswer} (record { number = n; sheet = sh }) (readAnswer s)
+refused s n sh p z e =
+    made n (readNumber s) sh (given (readNumber s) (sheetOf s) blank) p
+    (e ∙ sym (given-no (readNumber s) (sheetOf s) blank (λ q. z (p ∙ q))))

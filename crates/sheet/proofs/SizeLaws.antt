@@ -1,0 +1,36 @@
+-- Laws of the sizes: N, and the longest sheet.
+use mathlib.Core.Path.{_≡_, sym, ap, ap₂, _∙_}
+use mathlib.Core.Bool.{Bool, cond}
+use Prim.Native.Nat.{ℕ, _+_, _-_, _*_, _/_, _%_, _^_, _≤_, _<_}
+use native.Mathlib.Nat.{mod-eq-of-lt, one-mul}
+use native.Mathlib.Omega.{arith}
+use borrow.Author.Tests.{eq-eqb, ne-eqb}
+use lib.Pow.{pow-mono}
+use Rattle.laws.specs.Sums.{sumTo}
+use Rattle.laws.proofs.SumLaws.{sum-most}
+use Rattle.sheet.specs.Counts.{mostTti, longestSheet}
+use Rattle.sheet.specs.Layout.{slotWidth}
+use Rattle.sheet.specs.Fields.{phchsOf}
+use Rattle.sheet.specs.Sizes.{framesIn, segmentIn, bitsNeeded, bytesNeeded}
+use Rattle.sheet.specs.Range.{Ranged}
+use Rattle.sheet.specs.declared.Sheet.{Sheet}
+
+-- 1 << tti
+pub shifted : (tti : ℕ) → tti ≤ mostTti → 1 * 2 ^ tti % 18446744073709551616 ≡ framesIn tti
+shifted tti h = ap (λ (y : ℕ). y % 18446744073709551616) (one-mul (2 ^ tti)) ∙ mod-eq-of-lt (omega (arith, pow-mono h))
+
+pub size-none : (e f : ℕ) → e ≡ 0 → 0 ≡ segmentIn e f
+size-none e f h = sym (ap (λ (b : Bool). cond b 0 ((e - 1) / f + 1)) (eq-eqb e 0 h))
+
+pub size-some : (e f : ℕ) {x g : ℕ} → x ≡ e → g ≡ f → (e ≡ 0 → ⊥) → (x - 1) / g + 1 ≡ segmentIn e f
+size-some e f {x} {g} p q h =
+    ap₂ (λ (a b : ℕ). (a - 1) / b + 1) p q ∙ sym (ap (λ (b : Bool). cond b 0 ((e - 1) / f + 1)) (ne-eqb e 0 h))
+
+-- the longest sheet
+pub need-most : (sh : Sheet) → Ranged sh → bitsNeeded sh ≤ 3148
+need-most sh r =
+    let b = sum-most (λ t. slotWidth (phchsOf sh t)) 196 (sh .slots) (λ t l. omega (arith, r .phch16 t l)) in
+    omega (arith, r .fifteen, r .eight)
+
+pub bytes-most : (sh : Sheet) → Ranged sh → bytesNeeded sh ≤ longestSheet
+bytes-most sh r = omega (arith, need-most sh r)

@@ -1,0 +1,26 @@
+use mathlib.Core.Path.{sym, subst}
+use Rattle.sheet.specs.Range.{Ranged}
+use Rattle.sheet.proofs.FieldLaws.{ranged-in}
+use Rattle.sheet.proofs.NumberLaws.{accepted, refused}
+use borrow.Author.Needs.{needs}
+use Rattle.sheet.proofs.reading.read_sheet.Statement.{statement}
+use Rattle.sheet.proofs.reading.read_sheet.Tie as tie
+
+read-fields-requires : tie.Need-read-fields-requires
+read-fields-requires c κs = search needs
+
+read-number-requires : tie.Need-read-number-requires
+read-number-requires c κs = (c .read-fields .ensures, subst Ranged (sym (c .read-fields .ensures)) (ranged-in (c .before .before .args .bytes .now)))
+
+returns : tie.Need-returns
+returns c = accepted (c .before .before .before .before .args .bytes .now) _ _ (c .before .read-number .ensures) (c .if1 .taken) (c .before .before .read-fields .ensures)
+
+none-requires : tie.Need-none-requires
+none-requires c κs = search needs
+
+returns-2 : tie.Need-returns-2
+returns-2 c = refused (c .before .before .before .before .before .args .bytes .now) _ _ (c .before .before .read-number .ensures) (c .before .if1 .left) (c .none .ensures)
+
+pub read-sheet-spec : {M : Type 1} → statement M
+read-sheet-spec =
+    tie.close (tie.spec read-fields-requires read-number-requires returns none-requires returns-2)

@@ -1,0 +1,36 @@
+-- The counts of document 01, each said once.
+use Prim.Native.Nat.{ℕ, _*_}
+
+-- transport channels, slots, and physical channels (codes) of a slot
+abbrev pub mostChannels : ℕ
+mostChannels = 8
+
+abbrev pub mostSlots : ℕ
+mostSlots = 15
+
+abbrev pub mostCodes : ℕ
+mostCodes = 16
+
+abbrev pub mostCapacities : ℕ
+mostCapacities = mostSlots * mostCodes
+
+-- the sum of all equalised sizes, and that of all capacities
+abbrev pub mostBits : ℕ
+mostBits = 60000
+
+-- the ranges of a channel's fields and of a capacity
+abbrev pub mostTti : ℕ
+mostTti = 3
+
+abbrev pub mostEncoded : ℕ
+mostEncoded = 16383
+
+abbrev pub mostRatio : ℕ
+mostRatio = 256
+
+abbrev pub mostCapacity : ℕ
+mostCapacity = 4095
+
+-- the bytes of the longest sheet
+abbrev pub longestSheet : ℕ
+longestSheet = 394

@@ -1,0 +1,64 @@
+-- The lines 1 to 8 of the table of numbers, and what reading a sheet answers.
+use mathlib.Core.Bool.{Bool, not, _||_}
+use mathlib.Core.List.{List, [], _∷_}
+use Prim.Native.Nat.{ℕ, _-_, _*_}
+use lib.Dec.{eqb, ltb}
+use lib.ListN.{length}
+use Rattle.laws.specs.Sums.{anyTo}
+use Rattle.counters.specs.Lines.{Line, line, firstOf, given}
+use Rattle.bits.specs.Bits.{bitsAt}
+use Rattle.sheet.specs.Counts.{mostBits}
+use Rattle.sheet.specs.Layout.{spareAt, spareWidth}
+use Rattle.sheet.specs.Fields.{sheetOf, blank, encodedOf, phchsOf, capacityOf}
+use Rattle.sheet.specs.Sizes.{equalisedAll, capacityAll, bitsNeeded, bytesNeeded}
+use Rattle.sheet.specs.declared.Sheet.{Sheet}
+use Rattle.sheet.specs.declared.SheetAnswer.{SheetAnswer}
+
+-- 4: sheet length not what its fields need, or a spare or padding bit set
+abbrev pub wrongLength : List ℕ → Bool
+wrongLength s = not (eqb (length s) (bytesNeeded (sheetOf s)))
+
+abbrev pub spareSet : List ℕ → Bool
+spareSet s = not (eqb (bitsAt s spareAt spareWidth) 0)
+
+abbrev pub paddingSet : List ℕ → Bool
+paddingSet s = not (eqb (bitsAt s (bitsNeeded (sheetOf s)) (8 * length s - bitsNeeded (sheetOf s))) 0)
+
+abbrev pub misfit : List ℕ → Bool
+misfit s = wrongLength s || (spareSet s || paddingSet s)
+
+-- 5: a capacity is 0
+abbrev pub emptySlot : Sheet → ℕ → Bool
+emptySlot sh t = anyTo (λ p. eqb (capacityOf sh t p) 0) (phchsOf sh t)
+
+abbrev pub emptyPlace : Sheet → Bool
+emptyPlace sh = anyTo (emptySlot sh) (sh .slots)
+
+-- 8: every E is 0
+abbrev pub silent : Sheet → Bool
+silent sh = not (anyTo (λ i. not (eqb (encodedOf sh i) 0)) (sh .channels))
+
+-- the lines from 5 on, which look at fields alone
+abbrev pub loadLines : Sheet → List Line
+loadLines sh =
+    line (emptyPlace sh) 5 ∷
+    line (ltb mostBits (equalisedAll sh)) 6 ∷
+    line (ltb mostBits (capacityAll sh)) 7 ∷
+    line (silent sh) 8 ∷
+    []
+
+-- the lines of a sheet's bytes
+abbrev pub readLines : List ℕ → List Line
+readLines s =
+    line (ltb (length s) 2) 1 ∷
+    line (not (eqb (sheetOf s .version) 1)) 2 ∷
+    line (eqb (sheetOf s .slots) 0) 3 ∷
+    line (misfit s) 4 ∷
+    loadLines (sheetOf s)
+
+abbrev pub readNumber : List ℕ → ℕ
+readNumber s = firstOf (readLines s)
+
+-- the fields where no line holds, zeros where one does
+abbrev pub readAnswer : List ℕ → SheetAnswer
+readAnswer s = record { number = readNumber s; sheet = given (readNumber s) (sheetOf s) blank }

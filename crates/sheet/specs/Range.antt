@@ -1,0 +1,18 @@
+-- Each field that a sheet has is within its range. (A capacity may be 0: that is number 5.)
+use Prim.Native.Nat.{ℕ, _≤_, _<_}
+use Rattle.sheet.specs.Counts.{mostChannels, mostSlots, mostCodes, mostTti, mostEncoded, mostRatio, mostCapacity}
+use Rattle.sheet.specs.Fields.{ttiOf, encodedOf, ratioOf, phchsOf, capacityOf}
+use Rattle.sheet.specs.declared.Sheet.{Sheet}
+
+pub record Ranged (sh : Sheet) : Type 0 where
+  pub mode : sh .mode ≤ 1
+  pub one : 1 ≤ sh .channels
+  pub eight : sh .channels ≤ mostChannels
+  pub fifteen : sh .slots ≤ mostSlots
+  pub tti : (i : ℕ) → i < sh .channels → ttiOf sh i ≤ mostTti
+  pub encoded : (i : ℕ) → i < sh .channels → encodedOf sh i ≤ mostEncoded
+  pub ratio : (i : ℕ) → i < sh .channels → 1 ≤ ratioOf sh i
+  pub ratio256 : (i : ℕ) → i < sh .channels → ratioOf sh i ≤ mostRatio
+  pub phch : (t : ℕ) → t < sh .slots → 1 ≤ phchsOf sh t
+  pub phch16 : (t : ℕ) → t < sh .slots → phchsOf sh t ≤ mostCodes
+  pub caps : (t p : ℕ) → t < sh .slots → p < phchsOf sh t → capacityOf sh t p ≤ mostCapacity

@@ -1,0 +1,25 @@
+// The counts of document 01, each said once; specs/Counts.antt has the same for the definitions.
+
+// Transport channels, slots, and physical channels (codes) of a slot.
+pub const CHANNELS: usize = 8;
+
+pub const SLOTS: usize = 15;
+
+pub const CODES: usize = 16;
+
+pub const CAPACITIES: usize = SLOTS * CODES;
+
+// The sum of all equalised sizes, and that of all capacities.
+pub const MOST_BITS: u64 = 60000;
+
+// The ranges of a channel's fields and of a capacity.
+pub const MOST_TTI: u16 = 3;
+
+pub const MOST_ENCODED: u16 = 16383;
+
+pub const MOST_RATIO: u16 = 256;
+
+pub const MOST_CAPACITY: u16 = 4095;
+
+// The bytes of the longest sheet.
+pub const LONGEST: usize = 394;

@@ -1,0 +1,38 @@
+// Where the fields of a sheet stand in its bits, and how wide they are; specs/Layout.antt has the same for the definitions.
+
+// The head: version, mode, I-1, T, spare.
+pub const VERSION_AT: usize = 0;
+
+pub const VERSION_WIDTH: usize = 4;
+
+pub const MODE_AT: usize = 4;
+
+pub const MODE_WIDTH: usize = 1;
+
+pub const COUNT_AT: usize = 5;
+
+pub const COUNT_WIDTH: usize = 3;
+
+pub const SLOTS_AT: usize = 8;
+
+pub const SLOTS_WIDTH: usize = 4;
+
+pub const SPARE_AT: usize = 12;
+
+pub const SPARE_WIDTH: usize = 4;
+
+pub const HEAD_WIDTH: usize = 16;
+
+// A channel: TTI, E, RM-1.
+pub const TTI_WIDTH: usize = 2;
+
+pub const ENCODED_WIDTH: usize = 14;
+
+pub const RATIO_WIDTH: usize = 8;
+
+pub const CHANNEL_WIDTH: usize = TTI_WIDTH + ENCODED_WIDTH + RATIO_WIDTH;
+
+// A slot: P-1, and U, P times.
+pub const CODES_WIDTH: usize = 4;
+
+pub const CAPACITY_WIDTH: usize = 12;
