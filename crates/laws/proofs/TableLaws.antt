@@ -8,7 +8,7 @@ use native.Mathlib.Omega.{arith}
 use native.Mathlib.Decide.{decLt, ℕ-discrete}
 use borrow.Author.Tests.{lt-ltb, le-ltb}
 use lib.Arith.{lt-of-le-ne}
-use lib.ListN.{length, getD, set, length-set}
+use lib.ListN.{length, getD, set, replicate, length-set}
 use lib.Seq.{ext-getD, getD-set-same, getD-set-other}
 use Rattle.laws.specs.Tables.{table, upTo}
 
@@ -45,6 +45,12 @@ filled-all g l m e all = tabled g l m 0 e all
 
 pub table-same : (f g : ℕ → ℕ) (m : ℕ) → ((i : ℕ) → i < m → f i ≡ g i) → table f 0 m ≡ table g 0 m
 table-same f g m h = table-alike f g m 0 h
+
+-- an array of zeros
+pub zeros-at : (n i : ℕ) → _≡_ {A = ℕ} (getD (replicate n 0) i 0) 0
+zeros-at zero i = refl
+zeros-at (suc n) zero = refl
+zeros-at (suc n) (suc i) = zeros-at n i
 
 -- upTo, below its count and past it
 pub upTo-below : (n i a : ℕ) → i < n → upTo n i a ≡ a

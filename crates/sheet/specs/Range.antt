@@ -1,9 +1,13 @@
--- Each field that a sheet has is within its range. (A capacity may be 0: that is number 5.)
+-- What the code below the public calls may count on.
+use mathlib.Core.Path.{_≡_}
 use Prim.Native.Nat.{ℕ, _≤_, _<_}
+use Rattle.counters.specs.Lines.{firstOf}
 use Rattle.sheet.specs.Counts.{mostChannels, mostSlots, mostCodes, mostTti, mostEncoded, mostRatio, mostCapacity}
 use Rattle.sheet.specs.Fields.{ttiOf, encodedOf, ratioOf, phchsOf, capacityOf}
+use Rattle.sheet.specs.Numbers.{loadLines}
 use Rattle.sheet.specs.declared.Sheet.{Sheet}
 
+-- each field that a sheet has is within its range; a capacity may be 0, which is number 5
 pub record Ranged (sh : Sheet) : Type 0 where
   pub mode : sh .mode ≤ 1
   pub one : 1 ≤ sh .channels
@@ -16,3 +20,8 @@ pub record Ranged (sh : Sheet) : Type 0 where
   pub phch : (t : ℕ) → t < sh .slots → 1 ≤ phchsOf sh t
   pub phch16 : (t : ℕ) → t < sh .slots → phchsOf sh t ≤ mostCodes
   pub caps : (t p : ℕ) → t < sh .slots → p < phchsOf sh t → capacityOf sh t p ≤ mostCapacity
+
+-- and no line holds of the fields: they are those of an accepted sheet
+pub record Accepted (sh : Sheet) : Type 0 where
+  pub ranged : Ranged sh
+  pub loads : firstOf (loadLines sh) ≡ 0

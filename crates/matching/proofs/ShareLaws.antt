@@ -1,0 +1,129 @@
+-- Laws of the shares: they add up to D, an empty channel has none, and no accepted sheet divides by 0.
+use mathlib.Core.Path.{_≡_, refl, sym, ap, _∙_, subst}
+use mathlib.Core.Bool.{Bool, true, false, false≢true, not, cond, _||_}
+use mathlib.Core.List.{List}
+use Prim.Native.Nat.{ℕ, zero, suc, _+_, _-_, _*_, _/_, _≤_, _<_}
+use native.Mathlib.Nat.{mul-zero, zero-div, add-sub-of-le, mul-le-mul-left, mul-le-mul, mul-div-cancel, le-div-iff-mul-le, div-mul-le-self, le-trans}
+use native.Mathlib.Numerals.{add-one}
+use native.Mathlib.Omega.{arith}
+use native.Mathlib.Decide.{decLt}
+use borrow.Author.Tests.{ne-eqb, eqb-false, not-false, not-true, lt-ltb, le-ltb}
+use lib.Dec.{eqb}
+use lib.IntN.{pos, negsuc, negℤ, _-ℤ_}
+use lib.ListN.{getD, set, replicate}
+use Rattle.laws.specs.Sums.{sumTo, anyTo}
+use Rattle.laws.specs.Tables.{table, upTo}
+use Rattle.laws.proofs.SumLaws.{sum-more}
+use Rattle.laws.proofs.TableLaws.{zeros-at, table-set, filled-all, filled-at, upTo-past}
+use Rattle.sheet.specs.Counts.{mostChannels, mostEncoded, mostRatio}
+use Rattle.sheet.specs.Fields.{encodedOf, ratioOf}
+use Rattle.sheet.specs.Sizes.{framesOf, sizeOf, capacityAll}
+use Rattle.sheet.specs.Numbers.{silent}
+use Rattle.sheet.specs.Range.{Ranged}
+use Rattle.sheet.specs.declared.Sheet.{Sheet}
+use Rattle.matching.specs.Shares.{cutIn, shareIn, weightOf, weightAll, cutOf, shareOf, cutsOf}
+
+-- Z and V of any weights w of n channels, not all 0
+module _ (d : ℕ) (w : ℕ → ℕ) (n : ℕ) (p : 0 < sumTo w n) where
+  pub cut-first : cutIn d w n 0 ≡ 0
+  unfolding sumTo
+  cut-first = ap (λ (x : ℕ). x / sumTo w n) (mul-zero d) ∙ zero-div _
+
+  pub cut-last : cutIn d w n n ≡ d
+  cut-last = mul-div-cancel d p
+
+  pub cut-up : (i : ℕ) → cutIn d w n i ≤ cutIn d w n (i + 1)
+  cut-up i =
+      let l : sumTo w i ≤ sumTo w (i + 1) = omega (arith, sum-more w i refl refl) in
+      le-div-iff-mul-le p .1 (le-trans (div-mul-le-self (d * sumTo w i) (sumTo w n)) (mul-le-mul-left d l))
+
+  pub shares-to : (i : ℕ) → sumTo (shareIn d w n) i ≡ cutIn d w n i
+  unfolding sumTo
+  shares-to zero = sym cut-first
+  shares-to (suc i) =
+      ap (λ (x : ℕ). x + shareIn d w n i) (shares-to i) ∙ add-sub-of-le (cut-up i) ∙ ap (cutIn d w n) (add-one i)
+
+  -- V_1 + .. + V_I = D
+  pub shares-all : sumTo (shareIn d w n) n ≡ d
+  shares-all = shares-to n ∙ cut-last
+
+  -- a channel with no weight has no share
+  pub share-none : (i : ℕ) → w i ≡ 0 → shareIn d w n i ≡ 0
+  share-none i z =
+      let e : sumTo w (i + 1) ≡ sumTo w i = sym (sum-more w i refl refl) ∙ omega (arith, z) in
+      let f : cutIn d w n (i + 1) ≡ cutIn d w n i = ap (λ (x : ℕ). d * x / sumTo w n) e in
+      omega arith
+
+-- N = 0: V = 0
+pub empty-share : (sh : Sheet) (i : ℕ) → 0 < weightAll sh → sizeOf sh i ≡ 0 → shareOf sh i ≡ 0
+empty-share sh i p z =
+    share-none (capacityAll sh) (weightOf sh) (sh .channels) p i (ap (λ (x : ℕ). ratioOf sh i * x) z ∙ mul-zero (ratioOf sh i))
+
+-- a channel that has bits has weight
+weight-one : (sh : Sheet) → Ranged sh → (n : ℕ) → n < sh .channels → (encodedOf sh n ≡ 0 → ⊥) → 1 ≤ weightOf sh n
+weight-one sh r n l z =
+    let e = ap (λ (b : Bool). cond b 0 ((encodedOf sh n - 1) / framesOf sh n + 1)) (ne-eqb (encodedOf sh n) 0 z) in
+    let s : 1 ≤ sizeOf sh n = subst (λ (x : ℕ). 1 ≤ x) (sym e) (omega arith) in
+    mul-le-mul {n₁ = 1} {m₁ = 1} (r .ratio n l) s
+
+weight-step : (sh : Sheet) → Ranged sh → (n : ℕ) → n < sh .channels → (a : Bool) → (a ≡ true → 0 < sumTo (weightOf sh) n)
+    → (a || not (eqb (encodedOf sh n) 0)) ≡ true → 0 < sumTo (weightOf sh) n + weightOf sh n
+weight-step sh r n l true k h = omega (arith, k refl)
+weight-step sh r n l false k h = omega (arith, weight-one sh r n l (eqb-false (encodedOf sh n) 0 (not-true (eqb (encodedOf sh n) 0) h)))
+
+weight-some : (sh : Sheet) → Ranged sh → (n : ℕ) → n ≤ sh .channels → anyTo (λ i. not (eqb (encodedOf sh i) 0)) n ≡ true
+    → 0 < sumTo (weightOf sh) n
+unfolding sumTo anyTo
+weight-some sh r zero l h = absurd (false≢true h)
+weight-some sh r (suc n) l h =
+    weight-step sh r n l (anyTo (λ i. not (eqb (encodedOf sh i) 0)) n) (weight-some sh r n (omega arith)) h
+
+-- number 8 keeps the divisor of step 4 from being 0
+pub weight-heard : (sh : Sheet) → Ranged sh → silent sh ≡ false → 0 < weightAll sh
+weight-heard sh r h = weight-some sh r (sh .channels) (omega arith) (not-false _ h)
+
+-- the cuts as an array, filled from Z_0 up to Z_k
+abbrev pub cutsTo : Sheet → ℕ → List ℕ
+cutsTo sh k = table (λ i. upTo (k + 1) i (cutOf sh i)) 0 (mostChannels + 1)
+
+module _ (sh : Sheet) (p : 0 < weightAll sh) where
+  first-entry : (i : ℕ) → Dec (i < 1) → 0 ≡ upTo 1 i (cutOf sh i)
+  first-entry i (yes l) =
+      let e : 0 ≡ i = omega arith in
+      subst (λ (x : ℕ). 0 ≡ upTo 1 x (cutOf sh x)) e (sym (cut-first (capacityAll sh) (weightOf sh) (sh .channels) p))
+  first-entry i (no l) = sym (upTo-past 1 i (cutOf sh i) (omega arith))
+
+  pub cuts-first : replicate (mostChannels + 1) 0 ≡ cutsTo sh 0
+  cuts-first =
+      filled-all (λ i. upTo 1 i (cutOf sh i)) (replicate (mostChannels + 1) 0) (mostChannels + 1) refl
+      (λ i l. zeros-at (mostChannels + 1) i ∙ first-entry i (decLt i 1))
+
+pub cuts-more : (sh : Sheet) (k : ℕ) {x : ℕ} (z : List ℕ) → k < mostChannels → z ≡ cutsTo sh k → x ≡ cutOf sh (k + 1)
+    → set z (k + 1) x ≡ cutsTo sh (k + 1)
+cuts-more sh k z h e ex = rw (e, ex) (table-set (cutOf sh) (mostChannels + 1) (k + 1) (omega arith))
+
+pub cuts-all : (sh : Sheet) (k : ℕ) → k ≡ sh .channels → cutsTo sh k ≡ cutsOf sh
+unfolding cutsOf
+cuts-all sh k e = ap (cutsTo sh) e
+
+pub cuts-at : (sh : Sheet) (i : ℕ) → sh .channels ≤ mostChannels → i ≤ sh .channels → getD (cutsOf sh) i 0 ≡ cutOf sh i
+unfolding cutsOf
+cuts-at sh i b h = filled-at (cutOf sh) (sh .channels + 1) (mostChannels + 1) i (omega arith) (omega arith)
+
+-- d by its sign and its magnitude
+pub change-less : (v n : ℕ) → v < n → negℤ (pos (n - v)) ≡ pos v -ℤ pos n
+change-less v zero h = absurd (omega arith)
+change-less v (suc m) h =
+    let e : suc m - v ≡ suc (suc m - suc v) = omega arith in
+    ap (λ (x : ℕ). negℤ (pos x)) e ∙ sym (ap (λ (b : Bool). cond b (negsuc (suc m - suc v)) (pos (v - suc m))) (lt-ltb v (suc m) h))
+
+pub change-more : (v n : ℕ) → n ≤ v → pos (v - n) ≡ pos v -ℤ pos n
+change-more v zero h = ap pos (omega arith)
+change-more v (suc m) h = sym (ap (λ (b : Bool). cond b (negsuc (suc m - suc v)) (pos (v - suc m))) (le-ltb v (suc m) h))
+
+-- the bounds that keep every product in 64 bits
+pub weight-most : {a b : ℕ} → a ≤ mostRatio → b ≤ mostEncoded → a * b ≤ 4194048
+weight-most h i = mul-le-mul h i
+
+pub product-most : {a b : ℕ} → a ≤ 15728400 → b ≤ 33552384 → a * b ≤ 527725316505600
+product-most h i = mul-le-mul h i

@@ -1,0 +1,79 @@
+// Step 4: the shares of the channels.
+ghost use mathlib.Core.Path.{_≡_};
+ghost use Prim.Native.Nat.{_*_, _≤_, _<_};
+ghost use lib.IntN.{pos, _-ℤ_};
+ghost use Rattle.sheet.specs.Counts.{mostTti, mostEncoded, mostRatio};
+ghost use Rattle.sheet.specs.Sizes.{framesIn, segmentIn};
+ghost use Rattle.sheet.specs.Range.{Ranged};
+ghost use Rattle.matching.specs.Signed.{signedBy};
+ghost use Rattle.matching.specs.Shares.{weightAll, cutsOf};
+use sheet::Sheet;
+use sheet::count;
+use sheet::counts::CHANNELS;
+use sheet::sizes::capacity;
+use sheet::sizes::segment;
+use sheet::wide;
+
+// A difference by its sign (true: below 0) and its magnitude.
+pub struct Change {
+    pub less: bool,
+    pub size: u64,
+}
+
+// d = V - N.
+pub fn difference(v: u64, n: u64) -> Change
+    ensures { λ r. ⌜ signedBy (r .less) (r .size) ≡ pos v -ℤ pos n ⌝ }
+{
+    if v < n {
+        return Change {
+            less: true,
+            size: n - v,
+        };
+    }
+    Change {
+        less: false,
+        size: v - n,
+    }
+}
+
+// RM x N.
+fn weight(rm: u16, e: u16, tti: u16) -> u64
+    requires { ⌜ (rm ≤ mostRatio) × (e ≤ mostEncoded) × (tti ≤ mostTti) ⌝ }
+    ensures { λ r. ⌜ (r ≡ rm * segmentIn e (framesIn tti)) × (r ≤ 4194048) ⌝ }
+{
+    wide(rm) * segment(e, tti)
+}
+
+// The sum of RM x N over all channels.
+fn weight_all(fields: Sheet) -> u64
+    requires { ⌜ Ranged fields ⌝ }
+    ensures { λ r. ⌜ r ≡ weightAll fields ⌝ }
+{
+    let n = count(fields.channels);
+    let mut sum: u64 = 0;
+    let mut i: usize = 0;
+    while i < n {
+        sum += weight(fields.rm[i], fields.e[i], fields.tti[i]);
+        i += 1;
+    }
+    sum
+}
+
+// Z_0 to Z_I, 0 past them.
+pub fn cuts(fields: Sheet) -> [u64; CHANNELS + 1]
+    requires { ⌜ Ranged fields × (0 < weightAll fields) ⌝ }
+    ensures { λ r. ⌜ r ≡ cutsOf fields ⌝ }
+{
+    let n = count(fields.channels);
+    let d = capacity(fields);
+    let all = weight_all(fields);
+    let mut z = [0u64; CHANNELS + 1];
+    let mut part: u64 = 0;
+    let mut i: usize = 0;
+    while i < n {
+        part += weight(fields.rm[i], fields.e[i], fields.tti[i]);
+        i += 1;
+        z[i] = d * part / all;
+    }
+    z
+}

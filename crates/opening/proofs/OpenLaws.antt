@@ -1,0 +1,110 @@
+-- Laws of an opened sheet.
+use mathlib.Core.Path.{_≡_, refl, sym, ap, _∙_, subst}
+use mathlib.Core.List.{List}
+use Prim.Native.Nat.{ℕ, _+_, _≤_, _<_}
+use native.Mathlib.Omega.{arith}
+use lib.ListN.{getD, set}
+use Rattle.laws.specs.Tables.{table, upTo}
+use Rattle.laws.proofs.TableLaws.{table-set, filled-at}
+use Rattle.counters.specs.Lines.{given}
+use Rattle.counters.proofs.LineLaws.{given-yes, given-no}
+use Rattle.sheet.specs.Counts.{mostChannels}
+use Rattle.sheet.specs.Fields.{sheetOf, blank}
+use Rattle.sheet.specs.Sizes.{sizeOf, capacityAll}
+use Rattle.sheet.specs.Numbers.{readNumber, readAnswer}
+use Rattle.sheet.specs.Range.{Ranged, Accepted}
+use Rattle.sheet.specs.declared.Sheet.{Sheet}
+use Rattle.sheet.specs.declared.SheetAnswer.{SheetAnswer}
+use Rattle.sheet.proofs.FieldLaws.{ranged-in}
+use Rattle.sheet.proofs.NumberLaws.{loads-zero, readable}
+use Rattle.matching.specs.Shares.{weightOf, weightAll, cutOf, shareOf}
+use Rattle.matching.proofs.ShareLaws.{weight-heard, cut-up, cuts-at}
+use Rattle.opening.specs.Opened.{sizesOf, openedOf, closed, openAnswer, Opens}
+use Rattle.opening.specs.declared.Opened.{Opened}
+use Rattle.opening.specs.declared.OpenAnswer.{OpenAnswer}
+
+-- N of each channel, filled up to k
+abbrev pub sizesTo : Sheet → ℕ → List ℕ
+sizesTo sh k = table (λ i. upTo k i (sizeOf sh i)) 0 mostChannels
+
+pub sizes-more : (sh : Sheet) (k : ℕ) {x : ℕ} (l : List ℕ) → k < mostChannels → l ≡ sizesTo sh k → x ≡ sizeOf sh k → set l k x ≡ sizesTo sh (k + 1)
+sizes-more sh k l h e ex = rw (e, ex) (table-set (sizeOf sh) mostChannels k h)
+
+pub sizes-all : (sh : Sheet) (k : ℕ) → k ≡ sh .channels → sizesTo sh k ≡ sizesOf sh
+unfolding sizesOf
+sizes-all sh k e = ap (sizesTo sh) e
+
+pub sizes-at : (sh : Sheet) (i : ℕ) → sh .channels ≤ mostChannels → i < sh .channels → getD (sizesOf sh) i 0 ≡ sizeOf sh i
+unfolding sizesOf
+sizes-at sh i b h = filled-at (sizeOf sh) (sh .channels) mostChannels i (omega arith) h
+
+-- an accepted sheet's weights are not all 0
+pub weighs : (sh : Sheet) → Accepted sh → 0 < weightAll sh
+weighs sh a = weight-heard sh (a .ranged) (loads-zero sh (a .loads) .heard)
+
+pub accepted-in : (s : List ℕ) → readNumber s ≡ 0 → Accepted (sheetOf s)
+accepted-in s z = record { ranged = ranged-in s; loads = readable s z .loads }
+
+-- what stands in an opened sheet
+module _ (o : Opened) (h : Opens o) (i : ℕ) (l : i < o .fields .channels) where
+  abbrev few : o .fields .channels ≤ mostChannels
+  few = h .accepted .ranged .eight
+
+  pub size-is : getD (o .sizes) i 0 ≡ sizeOf (o .fields) i
+  size-is = ap (λ (x : Opened). getD (x .sizes) i 0) (h .own) ∙ sizes-at (o .fields) i few l
+
+  pub low-is : getD (o .cuts) i 0 ≡ cutOf (o .fields) i
+  low-is = ap (λ (x : Opened). getD (x .cuts) i 0) (h .own) ∙ cuts-at (o .fields) i few (omega arith)
+
+  pub high-is : getD (o .cuts) (i + 1) 0 ≡ cutOf (o .fields) (i + 1)
+  high-is = ap (λ (x : Opened). getD (x .cuts) (i + 1) 0) (h .own) ∙ cuts-at (o .fields) (i + 1) few (omega arith)
+
+  pub cut-rises : getD (o .cuts) i 0 ≤ getD (o .cuts) (i + 1) 0
+  cut-rises =
+      let f = o .fields in
+      omega (arith, low-is, high-is, cut-up (capacityAll f) (weightOf f) (f .channels) (weighs f (h .accepted)) i)
+
+-- the answers
+number-read : (s : List ℕ) (a : SheetAnswer) → a ≡ readAnswer s → a .number ≡ readNumber s
+number-read s a e = ap (λ (x : SheetAnswer). x .number) e
+
+pub fields-read : (s : List ℕ) (a : SheetAnswer) → a ≡ readAnswer s → a .number ≡ 0 → a .sheet ≡ sheetOf s
+fields-read s a e z =
+    ap (λ (x : SheetAnswer). x .sheet) e ∙ given-yes (readNumber s) (sheetOf s) blank (sym (number-read s a e) ∙ z)
+
+made : (n m : ℕ) (a b : Opened) → n ≡ m → a ≡ b → _≡_ {A = OpenAnswer} (record { number = n; opened = a }) (record { number = m; opened = b })
+made n m a b p q = rw (p, q)
+
+module _ (s : List ℕ) (a : SheetAnswer) (e : a ≡ readAnswer s) where
+  pub accepted-read : a .number ≡ 0 → Accepted (a .sheet)
+  accepted-read z = subst Accepted (sym (fields-read s a e z)) (accepted-in s (sym (number-read s a e) ∙ z))
+
+  pub opened-yes : (o : Opened) → a .number ≡ 0 → o ≡ openedOf (a .sheet)
+      → _≡_ {A = OpenAnswer} (record { number = a .number; opened = o }) (openAnswer s)
+  opened-yes o z p =
+      let n : a .number ≡ readNumber s = number-read s a e in
+      made (a .number) (readNumber s) o (given (readNumber s) (openedOf (sheetOf s)) closed) n
+      (p ∙ ap openedOf (fields-read s a e z) ∙ sym (given-yes (readNumber s) (openedOf (sheetOf s)) closed (sym n ∙ z)))
+
+  pub opened-no : (o : Opened) → (a .number ≡ 0 → ⊥) → o ≡ closed → _≡_ {A = OpenAnswer} (record { number = a .number; opened = o }) (openAnswer s)
+  opened-no o z p =
+      let n : a .number ≡ readNumber s = number-read s a e in
+      made (a .number) (readNumber s) o (given (readNumber s) (openedOf (sheetOf s)) closed) n
+      (p ∙ sym (given-no (readNumber s) (openedOf (sheetOf s)) closed (λ q. z (n ∙ q))))
+
+-- what an accepted opening is
+module _ (s : List ℕ) (a : OpenAnswer) (e : a ≡ openAnswer s) where
+  pub number-open : a .number ≡ readNumber s
+  number-open = ap (λ (x : OpenAnswer). x .number) e
+
+  pub opened-is : a .number ≡ 0 → a .opened ≡ openedOf (sheetOf s)
+  opened-is z =
+      ap (λ (x : OpenAnswer). x .opened) e ∙ given-yes (readNumber s) (openedOf (sheetOf s)) closed (sym number-open ∙ z)
+
+  pub fields-open : a .number ≡ 0 → a .opened .fields ≡ sheetOf s
+  fields-open z = ap (λ (x : Opened). x .fields) (opened-is z)
+
+  pub opens : a .number ≡ 0 → Opens (a .opened)
+  opens z =
+      let q = opened-is z in
+      subst Opens (sym q) (record { own = refl; accepted = accepted-in s (sym number-open ∙ z) })

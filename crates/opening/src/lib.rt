@@ -1,0 +1,103 @@
+// A sheet opened once: its fields, and the numbers that every frame needs of them.
+ghost use mathlib.Core.Path.{_≡_};
+ghost use Prim.Native.Nat.{_+_, _≤_, _<_};
+ghost use Rattle.sheet.specs.Range.{Ranged, Accepted};
+ghost use Rattle.matching.specs.Shares.{shareOf, changeOf};
+ghost use Rattle.matching.specs.Signed.{signedBy};
+ghost use Rattle.opening.specs.Opened.{sizesOf, openedOf, closed, openAnswer, Opens};
+use matching::shares::Change;
+use matching::shares::cuts;
+use matching::shares::difference;
+use sheet::Sheet;
+use sheet::count;
+use sheet::counts::CHANNELS;
+use sheet::none;
+use sheet::reading::read_sheet;
+use sheet::sizes::segment;
+
+// The fields; N of each channel, 0 past I; Z_0 to Z_I, 0 past them.
+pub struct Opened {
+    pub fields: Sheet,
+    pub sizes: [u64; CHANNELS],
+    pub cuts: [u64; CHANNELS + 1],
+}
+
+// The number of the sheet's bytes, and the opened sheet where that is 0, zeros where it is not.
+pub struct OpenAnswer {
+    pub number: u32,
+    pub opened: Opened,
+}
+
+// N of each channel, 0 past I.
+fn sizes(fields: Sheet) -> [u64; CHANNELS]
+    requires { ⌜ Ranged fields ⌝ }
+    ensures { λ r. ⌜ r ≡ sizesOf fields ⌝ }
+{
+    let n = count(fields.channels);
+    let mut all = [0u64; CHANNELS];
+    let mut i: usize = 0;
+    while i < n {
+        all[i] = segment(fields.e[i], fields.tti[i]);
+        i += 1;
+    }
+    all
+}
+
+// An opened sheet of zeros.
+fn zeros() -> Opened
+    ensures { λ r. ⌜ r ≡ closed ⌝ }
+{
+    let fields = none();
+    Opened {
+        fields,
+        sizes: [0; CHANNELS],
+        cuts: [0; CHANNELS + 1],
+    }
+}
+
+// The numbers of accepted fields.
+pub fn open_fields(fields: Sheet) -> Opened
+    requires { ⌜ Accepted fields ⌝ }
+    ensures { λ r. ⌜ r ≡ openedOf fields ⌝ }
+{
+    let sizes = sizes(fields);
+    let cuts = cuts(fields);
+    Opened {
+        fields,
+        sizes,
+        cuts,
+    }
+}
+
+// Opens a sheet's bytes: every call begins with this.
+pub fn open_sheet(bytes: &[u8]) -> OpenAnswer
+    ensures { λ r. ⌜ r ≡ openAnswer (now (bytes .entry)) ⌝ }
+{
+    let answer = read_sheet(bytes);
+    let number = answer.number;
+    if number == 0 {
+        let fields = answer.sheet;
+        let opened = open_fields(fields);
+        return OpenAnswer { number, opened };
+    }
+    let opened = zeros();
+    OpenAnswer { number, opened }
+}
+
+// V of channel i, counted from 0.
+pub fn share(opened: Opened, i: usize) -> u64
+    requires { ⌜ Opens opened × (i < opened .fields .channels) ⌝ }
+    ensures { λ r. ⌜ r ≡ shareOf (opened .fields) i ⌝ }
+{
+    let z = opened.cuts;
+    z[i + 1] - z[i]
+}
+
+// d = V - N of channel i, counted from 0.
+pub fn change(opened: Opened, i: usize) -> Change
+    requires { ⌜ Opens opened × (i < opened .fields .channels) ⌝ }
+    ensures { λ r. ⌜ signedBy (r .less) (r .size) ≡ changeOf (opened .fields) i ⌝ }
+{
+    let sizes = opened.sizes;
+    difference(share(opened, i), sizes[i])
+}
