@@ -1,16 +1,17 @@
 -- Laws of bits: one more bit, a bound, the end of the bytes.
 use mathlib.Core.Path.{_≡_, refl, sym, ap, ap₂, _∙_, subst}
-use mathlib.Core.List.{List, [], _∷_, _++_}
+use mathlib.Core.List.{List, _++_}
 use Prim.Native.Nat.{ℕ, zero, suc, _+_, _-_, _*_, _/_, _%_, _^_, _≤_, _<_}
 use native.Mathlib.Nat.{mod-lt, zero-div, zero-mod, pow-suc, mod-one, div-one, add-zero, add-assoc, mod-eq-of-lt, add-suc, mul-assoc, one-mul}
 use native.Mathlib.Numerals.{add-one, one-add}
 use native.Mathlib.Omega.{arith}
+use native.Mathlib.Decide.{ℕ-discrete}
 use lib.Dec.{lit<}
-use lib.Seq.{ext-getD, paste, length-paste-head, length-take-le, getD-append-add, getD-take}
-use Rattle.laws.proofs.TableLaws.{table-at, table-length}
-use lib.Pow.{pow-mono, mod-pow-add, shr-shr, high, low}
-use lib.Arith.{digits-div, digits-mod}
-use lib.ListN.{length, getD, set, drop, take, List·getD-eq-default, List·getD-append}
+use lib.Seq.{ext-getD, paste, length-paste-head, length-take-le, getD-append-add, getD-take, getD-drop}
+use Rattle.laws.proofs.TableLaws.{table-at, table-length, table-same}
+use lib.Pow.{pow-mono, mod-pow-add, shr-shr, low}
+use lib.Arith.{digits-div, digits-mod, lt-of-le-ne}
+use lib.ListN.{length, getD, drop, take, length-append, List·getD-eq-default, List·getD-append}
 use Rattle.bits.specs.Bits.{bitAt, val, digit, field, packed, bitOf}
 
 pub bit-lt : (s : List ℕ) (i : ℕ) → bitAt s i < 2
@@ -150,3 +151,55 @@ pub read-back : (bs : List ℕ) (m at n v : ℕ) → ((i : ℕ) → getD bs i 0 
     → ((i : ℕ) → i < n → getD bs (at + i) 0 ≡ digit n v i) → val (bitAt (packed (bitOf bs) m)) at n ≡ v
 read-back bs m at n v small room b h =
     val-field (bitAt (packed (bitOf bs) m)) at n v b (λ i l. packed-bit (bitOf bs) m (at + i) small (omega arith) ∙ h i l)
+
+-- the length of a field, and of bits with a field after them
+pub field-length : (w v : ℕ) → length (field w v) ≡ w
+field-length w v = table-length (digit w v) 0 w
+
+pub field-after : (l : List ℕ) (w v : ℕ) → length (l ++ field w v) ≡ length l + w
+field-after l w v = length-append l (field w v) ∙ ap (λ (x : ℕ). length l + x) (field-length w v)
+
+-- a digit of the number that bits make is the bit
+pub digit-val : (f : ℕ → ℕ) (at w i : ℕ) → ((j : ℕ) → f j < 2) → i < w → digit w (val f at w) i ≡ f (at + i)
+digit-val f at w i two l =
+    let k : w ≡ i + 1 + (w - 1 - i) = omega arith in
+    ap (λ (x : ℕ). val f at x / 2 ^ (w - 1 - i) % 2) k ∙ val-bit f at i (w - 1 - i) two
+
+-- equal bits make equal numbers and equal bytes
+pub val-same : (f g : ℕ → ℕ) (at n : ℕ) → ((i : ℕ) → i < at + n → f i ≡ g i) → val f at n ≡ val g at n
+unfolding val
+val-same f g at zero h = refl
+val-same f g at (suc n) h = ap₂ (λ (x y : ℕ). x * 2 + y) (val-same f g at n (λ i l. h i (omega arith))) (h (at + n) (omega arith))
+
+pub packed-same : (f g : ℕ → ℕ) (m : ℕ) → ((i : ℕ) → i < 8 * m → f i ≡ g i) → packed f m ≡ packed g m
+packed-same f g m h =
+    table-same (λ k. val f (8 * k) 8) (λ k. val g (8 * k) 8) m (λ k l. val-same f g (8 * k) 8 (λ i b. h i (omega arith)))
+
+-- bits that are 0 make 0, and bits that make 0 are 0
+pub val-zero : (f : ℕ → ℕ) (at n : ℕ) → ((i : ℕ) → i < n → f (at + i) ≡ 0) → val f at n ≡ 0
+unfolding val
+val-zero f at zero h = refl
+val-zero f at (suc n) h = omega (arith, val-zero f at n (λ i l. h i (omega arith)), h n (omega arith))
+
+pub val-none : (f : ℕ → ℕ) (at n i : ℕ) → val f at n ≡ 0 → i < n → f (at + i) ≡ 0
+unfolding val
+val-none f at zero i h l = absurd (omega arith)
+val-none f at (suc n) i h l = last (ℕ-discrete i n) (λ b. val-none f at n i (omega arith) b)
+  where
+    last : Dec (i ≡ n) → (i < n → f (at + i) ≡ 0) → f (at + i) ≡ 0
+    last (yes e) k = let z : f (at + n) ≡ 0 = omega arith in ap (λ (x : ℕ). f (at + x)) e ∙ z
+    last (no e) k = k (lt-of-le-ne (omega arith) e)
+
+-- before and after what was pasted
+pub paste-before : (d : List ℕ) (at : ℕ) (s : List ℕ) (n i : ℕ) → at ≤ length d → n ≤ length s → i < at → getD (paste d at s n) i 0 ≡ getD d i 0
+paste-before d at s n i hd hs l =
+    List·getD-append (take at d ++ take n s) (drop (at + n) d) 0 i (omega (arith, length-paste-head d at s n hd hs))
+    ∙ List·getD-append (take at d) (take n s) 0 i (omega (arith, length-take-le at d hd))
+    ∙ getD-take at d i 0 l
+
+pub paste-after : (d : List ℕ) (at : ℕ) (s : List ℕ) (n k : ℕ) → at ≤ length d → n ≤ length s
+    → getD (paste d at s n) (at + n + k) 0 ≡ getD d (at + n + k) 0
+paste-after d at s n k hd hs =
+    ap (λ (x : ℕ). getD (paste d at s n) (x + k) 0) (sym (length-paste-head d at s n hd hs))
+    ∙ getD-append-add (take at d ++ take n s) (drop (at + n) d) k 0
+    ∙ getD-drop (at + n) d k 0

@@ -3,7 +3,7 @@ ghost use mathlib.Core.Path.{_≡_};
 ghost use Prim.Native.Nat.{ℕ, _+_, _*_, _^_, _≤_, _<_};
 ghost use lib.Seq.{paste};
 ghost use lib.ListN.{length, getD};
-ghost use Rattle.bits.specs.Bits.{bitAt, bitsAt, val, field, packed, bitOf};
+ghost use Rattle.bits.specs.Bits.{bitsAt, val, field, packed, bitOf};
 
 // Byte k, 0 past the end.
 fn byte_at(s: &[u8], k: usize) -> u64

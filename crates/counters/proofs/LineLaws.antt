@@ -5,7 +5,7 @@ use mathlib.Core.List.{List, [], _∷_, _++_}
 use Prim.Native.Nat.{ℕ, suc, _<_}
 use native.Mathlib.Omega.{arith}
 use borrow.Author.Tests.{eq-eqb, ne-eqb}
-use Rattle.counters.specs.Lines.{Line, firstOf, given}
+use Rattle.counters.specs.Lines.{Line, line, firstOf, given}
 
 -- no line holds
 pub data Clear : List Line → Type 0 where
@@ -49,6 +49,13 @@ append-zero ys none h = none
 append-zero ys (more {l} {ls} p q) h =
     let a = passed (l .holds) (l .number) (firstOf (ls ++ ys)) p h in
     more (a .0) (append-zero ys q (a .1))
+
+-- one line after lines that are clear
+pub last-holds : {xs : List Line} (b : Bool) (n : ℕ) → Numbered xs → firstOf xs ≡ 0 → b ≡ true → n ≡ firstOf (xs ++ line b n ∷ [])
+last-holds b n m z e = here b n 0 e ∙ sym (append-clear (line b n ∷ []) (clear-of m z))
+
+pub last-clear : {xs : List Line} (b : Bool) (n : ℕ) → Numbered xs → firstOf xs ≡ 0 → b ≡ false → 0 ≡ firstOf (xs ++ line b n ∷ [])
+last-clear b n m z e = past b n 0 e refl ∙ sym (append-clear (line b n ∷ []) (clear-of m z))
 
 cond-same : (b : Bool) (n x y : ℕ) → (cond b n x ≡ 0 → ⊥) → ((x ≡ 0 → ⊥) → x ≡ y) → cond b n x ≡ cond b n y
 cond-same true n x y h k = refl

@@ -1,11 +1,23 @@
 // The four counters that document 002 lists apart, and the answer of a call.
 // Each counter is a type of its own, so that none is taken for another; a number is taken out of one only where a step defines it.
+ghost use mathlib.Core.Path.{_≡_};
+ghost use Prim.Native.Nat.{_-_, _<_};
 
 // The number of a bit in its channel, counted from 1.
 pub struct BitNumber(pub u32);
 
 // The number of a transport channel (TrCH), counted from 1.
 pub struct TrchNumber(pub u32);
+
+impl TrchNumber {
+    // Channels 1, 2, .. stand one after the other, from index 0 on.
+    pub fn index(self) -> usize
+        requires { ⌜ 0 < self .0 ⌝ }
+        ensures { λ r. ⌜ r ≡ self .0 - 1 ⌝ }
+    {
+        (self.0 - 1) as usize
+    }
+}
 
 // The number of a physical channel (PhCH) in its slot, counted from 1.
 pub struct PhchNumber(pub u32);

@@ -9,15 +9,15 @@ use Rattle.laws.proofs.TableLaws.{table-set, filled-at}
 use Rattle.counters.specs.Lines.{given}
 use Rattle.counters.proofs.LineLaws.{given-yes, given-no}
 use Rattle.sheet.specs.Counts.{mostChannels}
-use Rattle.sheet.specs.Fields.{sheetOf, blank}
+use Rattle.sheet.specs.Fields.{sheetOf}
 use Rattle.sheet.specs.Sizes.{sizeOf, capacityAll}
 use Rattle.sheet.specs.Numbers.{readNumber, readAnswer}
-use Rattle.sheet.specs.Range.{Ranged, Accepted}
+use Rattle.sheet.specs.Range.{Accepted}
 use Rattle.sheet.specs.declared.Sheet.{Sheet}
 use Rattle.sheet.specs.declared.SheetAnswer.{SheetAnswer}
 use Rattle.sheet.proofs.FieldLaws.{ranged-in}
-use Rattle.sheet.proofs.NumberLaws.{loads-zero, readable}
-use Rattle.matching.specs.Shares.{weightOf, weightAll, cutOf, shareOf}
+use Rattle.sheet.proofs.NumberLaws.{loads-zero, readable, number-read, fields-read}
+use Rattle.matching.specs.Shares.{weightOf, weightAll, cutOf}
 use Rattle.matching.proofs.ShareLaws.{weight-heard, cut-up, cuts-at}
 use Rattle.opening.specs.Opened.{sizesOf, openedOf, closed, openAnswer, Opens}
 use Rattle.opening.specs.declared.Opened.{Opened}
@@ -65,13 +65,6 @@ module _ (o : Opened) (h : Opens o) (i : ℕ) (l : i < o .fields .channels) wher
       omega (arith, low-is, high-is, cut-up (capacityAll f) (weightOf f) (f .channels) (weighs f (h .accepted)) i)
 
 -- the answers
-number-read : (s : List ℕ) (a : SheetAnswer) → a ≡ readAnswer s → a .number ≡ readNumber s
-number-read s a e = ap (λ (x : SheetAnswer). x .number) e
-
-pub fields-read : (s : List ℕ) (a : SheetAnswer) → a ≡ readAnswer s → a .number ≡ 0 → a .sheet ≡ sheetOf s
-fields-read s a e z =
-    ap (λ (x : SheetAnswer). x .sheet) e ∙ given-yes (readNumber s) (sheetOf s) blank (sym (number-read s a e) ∙ z)
-
 made : (n m : ℕ) (a b : Opened) → n ≡ m → a ≡ b → _≡_ {A = OpenAnswer} (record { number = n; opened = a }) (record { number = m; opened = b })
 made n m a b p q = rw (p, q)
 

@@ -1,6 +1,6 @@
 // A sheet opened once: its fields, and the numbers that every frame needs of them.
 ghost use mathlib.Core.Path.{_≡_};
-ghost use Prim.Native.Nat.{_+_, _≤_, _<_};
+ghost use Prim.Native.Nat.{_+_, _<_};
 ghost use Rattle.sheet.specs.Range.{Ranged, Accepted};
 ghost use Rattle.matching.specs.Shares.{shareOf, changeOf};
 ghost use Rattle.matching.specs.Signed.{signedBy};

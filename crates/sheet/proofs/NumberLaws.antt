@@ -1,6 +1,6 @@
 -- What the number 0 says of a sheet, and the answers of reading.
 use mathlib.Core.Path.{_≡_, sym, ap, ap₂, _∙_}
-use mathlib.Core.Bool.{Bool, true, false, not, _||_}
+use mathlib.Core.Bool.{false, not, _||_}
 use mathlib.Core.List.{List}
 use Prim.Native.Nat.{ℕ, _-_, _*_}
 use borrow.Author.Tests.{eq-eqb, ne-eqb, eqb-true, eqb-false, not-false}
@@ -20,6 +20,9 @@ use Rattle.sheet.specs.declared.SheetAnswer.{SheetAnswer}
 
 pub load-numbered : (sh : Sheet) → Numbered (loadLines sh)
 load-numbered sh = more (lit< tt) (more (lit< tt) (more (lit< tt) (more (lit< tt) none)))
+
+pub read-numbered : (s : List ℕ) → Numbered (readLines s)
+read-numbered s = more (lit< tt) (more (lit< tt) (more (lit< tt) (more (lit< tt) (load-numbered (sheetOf s)))))
 
 -- what the lines from 5 on leave
 pub record Loads (sh : Sheet) : Type 0 where
@@ -88,3 +91,11 @@ pub refused : (s : List ℕ) (n : ℕ) (sh : Sheet) → n ≡ readNumber s → (
 refused s n sh p z e =
     made n (readNumber s) sh (given (readNumber s) (sheetOf s) blank) p
     (e ∙ sym (given-no (readNumber s) (sheetOf s) blank (λ q. z (p ∙ q))))
+
+-- what an answer says of its number and its fields
+pub number-read : (s : List ℕ) (a : SheetAnswer) → a ≡ readAnswer s → a .number ≡ readNumber s
+number-read s a e = ap (λ (x : SheetAnswer). x .number) e
+
+pub fields-read : (s : List ℕ) (a : SheetAnswer) → a ≡ readAnswer s → a .number ≡ 0 → a .sheet ≡ sheetOf s
+fields-read s a e z =
+    ap (λ (x : SheetAnswer). x .sheet) e ∙ given-yes (readNumber s) (sheetOf s) blank (sym (number-read s a e) ∙ z)

@@ -1,5 +1,5 @@
 -- Laws of reading: one channel more, one capacity more, a slot that is done, and the fields put together.
-use mathlib.Core.Path.{_≡_, refl, sym, ap, ap₂, _∙_}
+use mathlib.Core.Path.{_≡_, sym, ap, ap₂, _∙_}
 use mathlib.Core.List.{List}
 use Prim.Native.Nat.{ℕ, _+_, _*_, _/_, _%_, _≤_, _<_}
 use native.Mathlib.Nat.{add-zero}
@@ -7,7 +7,7 @@ use native.Mathlib.Numerals.{add-one}
 use native.Mathlib.Omega.{arith}
 use native.Mathlib.Decide.{decLt}
 use lib.ListN.{set}
-use Rattle.laws.specs.Tables.{table, upTo}
+use Rattle.laws.specs.Tables.{upTo}
 use Rattle.laws.proofs.TableLaws.{table-set, table-same, upTo-below, upTo-past}
 use Rattle.bits.specs.Bits.{bitsAt}
 use Rattle.bits.proofs.BitLaws.{bits-lt}

@@ -1,6 +1,6 @@
 -- The fields of a sheet, as its bytes have them. Channels, slots and physical channels are counted from 0 here.
 use mathlib.Core.List.{List}
-use Prim.Native.Nat.{ℕ, zero, suc, _+_, _*_, _/_, _%_, _^_}
+use Prim.Native.Nat.{ℕ, zero, suc, _+_, _*_, _/_, _%_}
 use lib.ListN.{getD, replicate}
 use Rattle.laws.specs.Tables.{table, upTo}
 use Rattle.bits.specs.Bits.{bitsAt}

@@ -1,10 +1,10 @@
 use borrow.Author.Needs.{needs}
 use native.Mathlib.Omega.{arith}
-use mathlib.Core.Path.{_≡_, refl, ap, ap₂, _∙_}
+use mathlib.Core.Path.{_≡_, refl, ap₂, _∙_}
 use Prim.Native.Nat.{ℕ, _+_, _*_, _-_, _/_, _≤_}
 use Rattle.laws.specs.Sums.{sumTo}
 use Rattle.laws.proofs.SumLaws.{sum-more}
-use Rattle.matching.specs.Shares.{weightOf, cutOf}
+use Rattle.matching.specs.Shares.{weightOf}
 use Rattle.matching.proofs.ShareLaws.{cutsTo, cuts-first, cuts-more, cuts-all, product-most}
 use Rattle.matching.proofs.shares.cuts.Statement.{statement}
 use Rattle.matching.proofs.shares.cuts.Tie as tie

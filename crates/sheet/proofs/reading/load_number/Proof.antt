@@ -6,7 +6,7 @@ use lib.Dec.{ltb}
 use Rattle.counters.proofs.LineLaws.{here, past}
 use Rattle.sheet.specs.Counts.{mostBits}
 use Rattle.sheet.specs.Sizes.{equalisedAll, capacityAll}
-use Rattle.sheet.specs.Numbers.{emptyPlace, silent}
+use Rattle.sheet.specs.Numbers.{emptyPlace}
 use borrow.Author.Needs.{needs}
 use Rattle.sheet.proofs.reading.load_number.Statement.{statement}
 use Rattle.sheet.proofs.reading.load_number.Tie as tie

@@ -1,11 +1,11 @@
 use borrow.Author.Needs.{needs}
 use native.Mathlib.Omega.{arith}
 use mathlib.Core.Path.{_≡_, refl, ap, _∙_}
-use Prim.Native.Nat.{ℕ, _+_, _*_, _-_, _≤_}
+use Prim.Native.Nat.{_+_, _*_, _-_, _≤_}
 use Rattle.laws.specs.Sums.{sumTo}
 use Rattle.laws.proofs.SumLaws.{sum-more}
 use Rattle.sheet.specs.Counts.{mostCodes}
-use Rattle.sheet.specs.Layout.{channelAt, slotWidth}
+use Rattle.sheet.specs.Layout.{slotWidth}
 use Rattle.sheet.specs.Fields.{phchsOf}
 use Rattle.sheet.specs.Sizes.{slotAt}
 use Rattle.sheet.proofs.sizes.bits_needed.Statement.{statement}

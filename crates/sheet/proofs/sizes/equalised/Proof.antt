@@ -1,7 +1,7 @@
 use native.Mathlib.Omega.{arith}
 use mathlib.Core.Path.{ap₂}
 use Prim.Native.Nat.{_*_}
-use native.Mathlib.Nat.{mul-le-mul, le-trans}
+use native.Mathlib.Nat.{mul-le-mul}
 use borrow.Author.Needs.{needs}
 use Rattle.sheet.proofs.sizes.equalised.Statement.{statement}
 use Rattle.sheet.proofs.sizes.equalised.Tie as tie

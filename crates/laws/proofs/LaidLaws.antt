@@ -1,0 +1,36 @@
+-- Laws of parts laid one after the other.
+use mathlib.Core.Path.{_≡_, refl, sym, ap, ap₂, _∙_}
+use mathlib.Core.List.{List, [], _++_, append-nil}
+use Prim.Native.Nat.{ℕ, _+_, _≤_}
+use native.Mathlib.Omega.{arith}
+use lib.ListN.{length, drop, length-append, length-drop}
+use lib.Seq.{paste, take-at, take-length, drop-append-add, drop-drop, drop-length}
+use Rattle.laws.specs.Laid.{Laid}
+
+module _ {A : Type 0} where
+  pub laid-none : (o : List A) → Laid o o 0 []
+  laid-none o = record { end = refl; text = refl }
+
+  -- one part more
+  module _ (o out : List A) (at : ℕ) (l t : List A) (h : Laid o out at l) where
+    pasted : paste out at t (length t) ≡ (l ++ t) ++ drop (at + length t) o
+    pasted =
+        ap (λ (x : List A). paste x at t (length t)) (h .text)
+        ∙ ap₂ (λ (x y : List A). (x ++ y) ++ drop (at + length t) (l ++ drop at o)) (take-at l (drop at o) at (sym (h .end))) (take-length t)
+        ∙ ap (λ (x : List A). (l ++ t) ++ x)
+        (ap (λ (x : ℕ). drop (x + length t) (l ++ drop at o)) (h .end) ∙ drop-append-add l (drop at o) (length t) ∙ drop-drop (length t) at o)
+
+    pub laid-more : {r : ℕ} {out' : List A} → r ≡ at + length t → out' ≡ paste out at t (length t) → Laid o out' r (l ++ t)
+    laid-more e p =
+        record {
+          end = e ∙ ap (λ (x : ℕ). x + length t) (h .end) ∙ sym (length-append l t);
+          text = p ∙ pasted ∙ ap (λ (x : ℕ). (l ++ t) ++ drop x o) (sym e);
+        }
+
+  pub laid-long : (o out : List A) (at : ℕ) (l : List A) → Laid o out at l → at ≤ length o → length out ≡ length o
+  laid-long o out at l h b = ap length (h .text) ∙ length-append l (drop at o) ∙ omega (arith, length-drop at o, h .end)
+
+  -- parts that fill the list
+  pub laid-all : (o out : List A) (at : ℕ) (l : List A) → Laid o out at l → at ≡ length o → out ≡ l
+  laid-all o out at l h e =
+      h .text ∙ ap (λ (x : List A). l ++ x) (ap (λ (x : ℕ). drop x o) e ∙ drop-length o) ∙ append-nil l

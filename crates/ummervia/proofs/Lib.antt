@@ -1,0 +1,6 @@
+pub mod OutcomeLaws
+pub mod AskLaws
+pub mod FlatLaws
+pub mod SheetLaws
+pub mod ThereAndBack
+pub mod Unique

@@ -1,0 +1,44 @@
+-- Each public call's answer is unique: its contract says that all it leaves equals a function of its inputs, so two outcomes that both meet
+-- the contract are the same. One theorem for each call, named after it, over the right-hand side of its contract.
+use mathlib.Core.Path.{_≡_, sym, _∙_}
+use mathlib.Core.List.{List}
+use Prim.Native.Nat.{ℕ}
+use Rattle.counters.specs.declared.Answer.{Answer}
+use Rattle.sheet.specs.Numbers.{readAnswer}
+use Rattle.sheet.specs.declared.Sheet.{Sheet}
+use Rattle.sheet.specs.declared.SheetAnswer.{SheetAnswer}
+use Rattle.writing.specs.Written.{lengthAnswer}
+use Rattle.ummervia.specs.Outcome.{Outcome}
+use Rattle.ummervia.specs.Sheets.{readInto, writeInto, lengthFrom, writeFrom}
+use Rattle.ummervia.specs.Asking.{sizesAnswer, channelAnswer}
+use Rattle.ummervia.specs.declared.SizesAnswer.{SizesAnswer}
+use Rattle.ummervia.specs.declared.ChannelAnswer.{ChannelAnswer}
+
+only : {A : Type 0} {x y : A} (z : A) → x ≡ z → y ≡ z → x ≡ y
+only z p q = p ∙ sym q
+
+-- the calls in Rattle
+pub sheet-read : (bytes : List ℕ) (x y : SheetAnswer) → x ≡ readAnswer bytes → y ≡ readAnswer bytes → x ≡ y
+sheet-read bytes x y = only (readAnswer bytes)
+
+pub sheet-length : (fields : Sheet) (x y : Answer) → x ≡ lengthAnswer fields → y ≡ lengthAnswer fields → x ≡ y
+sheet-length fields x y = only (lengthAnswer fields)
+
+pub sheet-write : (fields : Sheet) (old : List ℕ) (x y : Outcome ℕ) → x ≡ writeInto fields old → y ≡ writeInto fields old → x ≡ y
+sheet-write fields old x y = only (writeInto fields old)
+
+pub sizes : (bytes : List ℕ) (x y : SizesAnswer) → x ≡ sizesAnswer bytes → y ≡ sizesAnswer bytes → x ≡ y
+sizes bytes x y = only (sizesAnswer bytes)
+
+pub channel : (bytes : List ℕ) (trch : ℕ) (x y : ChannelAnswer) → x ≡ channelAnswer bytes trch → y ≡ channelAnswer bytes trch → x ≡ y
+channel bytes trch x y = only (channelAnswer bytes trch)
+
+-- the calls in C; umv_sizes and umv_channel leave what sizes and channel answer
+pub umv-sheet-read : (bytes old : List ℕ) (x y : Outcome ℕ) → x ≡ readInto bytes old → y ≡ readInto bytes old → x ≡ y
+umv-sheet-read bytes old x y = only (readInto bytes old)
+
+pub umv-sheet-length : (fields : List ℕ) (x y : Answer) → x ≡ lengthFrom fields → y ≡ lengthFrom fields → x ≡ y
+umv-sheet-length fields x y = only (lengthFrom fields)
+
+pub umv-sheet-write : (fields old : List ℕ) (x y : Outcome ℕ) → x ≡ writeFrom fields old → y ≡ writeFrom fields old → x ≡ y
+umv-sheet-write fields old x y = only (writeFrom fields old)

@@ -1,0 +1,55 @@
+use Rattle.opening.proofs.OpenLaws.{size-is}
+use Rattle.ummervia.proofs.AskLaws.{channel-same}
+use borrow.Author.Needs.{needs}
+use Rattle.ummervia.proofs.asking.channel_of.Statement.{statement}
+use Rattle.ummervia.proofs.asking.channel_of.Tie as tie
+
+share-requires : tie.Need-share-requires
+share-requires c κs = search needs
+
+mul-frames : tie.Need-mul-frames
+mul-frames c = search needs
+
+element-copy-out-frames : tie.Need-element-copy-out-frames
+element-copy-out-frames c = search needs
+
+frames-requires : tie.Need-frames-requires
+frames-requires c κs =
+    let s = c .before .before .before .before in
+    s .pre .0 .accepted .ranged .tti (s .args .i) (s .pre .1)
+
+mul-wide : tie.Need-mul-wide
+mul-wide c = search needs
+
+element-copy-out-wide : tie.Need-element-copy-out-wide
+element-copy-out-wide c = search needs
+
+wide-requires : tie.Need-wide-requires
+wide-requires c κs = search needs
+
+mul-t16 : tie.Need-mul-t16
+mul-t16 c = search needs
+
+array-read-t19 : tie.Need-array-read-t19
+array-read-t19 c = search needs
+
+returns : tie.Need-returns
+returns c =
+    let s = c .before .before .before .before .before .before .before in
+    channel-same (s .args .opened .fields) (s .args .i) (c .before .before .frames .ensures .0) (c .wide .ensures .0)
+    (size-is (s .args .opened) (s .pre .0) (s .args .i) (s .pre .1)) (c .before .before .before .before .share .ensures)
+
+pub channel-of-spec : {M : Type 1} → statement M
+channel-of-spec =
+    tie.close
+    (tie.spec
+    share-requires
+    mul-frames
+    element-copy-out-frames
+    frames-requires
+    mul-wide
+    element-copy-out-wide
+    wide-requires
+    mul-t16
+    array-read-t19
+    returns)

@@ -1,0 +1,76 @@
+use Rattle.ummervia.proofs.FlatLaws.{sheet-taken}
+use borrow.Author.Needs.{needs}
+use Rattle.ummervia.proofs.flat.take_sheet.Statement.{statement}
+use Rattle.ummervia.proofs.flat.take_sheet.Tie as tie
+
+slice-aggregate-take-part : tie.Need-slice-aggregate-take-part
+slice-aggregate-take-part c = search needs
+
+take-part-requires : tie.Need-take-part-requires
+take-part-requires c κs = search needs
+
+slice-aggregate-take-part-2 : tie.Need-slice-aggregate-take-part-2
+slice-aggregate-take-part-2 c = search needs
+
+take-part-requires-2 : tie.Need-take-part-requires-2
+take-part-requires-2 c κs = search needs
+
+slice-aggregate-take-part-3 : tie.Need-slice-aggregate-take-part-3
+slice-aggregate-take-part-3 c = search needs
+
+take-part-requires-3 : tie.Need-take-part-requires-3
+take-part-requires-3 c κs = search needs
+
+slice-aggregate-take-part-4 : tie.Need-slice-aggregate-take-part-4
+slice-aggregate-take-part-4 c = search needs
+
+take-part-requires-4 : tie.Need-take-part-requires-4
+take-part-requires-4 c κs = search needs
+
+slice-aggregate-take-part-5 : tie.Need-slice-aggregate-take-part-5
+slice-aggregate-take-part-5 c = search needs
+
+take-part-requires-5 : tie.Need-take-part-requires-5
+take-part-requires-5 c κs = search needs
+
+shared-slice-read-t19 : tie.Need-shared-slice-read-t19
+shared-slice-read-t19 c = search needs
+
+shared-slice-read-t21 : tie.Need-shared-slice-read-t21
+shared-slice-read-t21 c = search needs
+
+shared-slice-read-t23 : tie.Need-shared-slice-read-t23
+shared-slice-read-t23 c = search needs
+
+shared-slice-read-t25 : tie.Need-shared-slice-read-t25
+shared-slice-read-t25 c = search needs
+
+returns : tie.Need-returns
+returns c =
+    let k5 = c .before .before .before .before .before in
+    let k4 = k5 .before .before .before in
+    let k3 = k4 .before .before .before in
+    let k2 = k3 .before .before .before in
+    let k1 = k2 .before .before .before in
+    sheet-taken (k1 .before .before .before .args .flat .now) (k1 .take-part .ensures) (k2 .take-part2 .ensures) (k3 .take-part3 .ensures)
+    (k4 .take-part4 .ensures) (k5 .take-part5 .ensures)
+
+pub take-sheet-spec : {M : Type 1} → statement M
+take-sheet-spec =
+    tie.close
+    (tie.spec
+    slice-aggregate-take-part
+    take-part-requires
+    slice-aggregate-take-part-2
+    take-part-requires-2
+    slice-aggregate-take-part-3
+    take-part-requires-3
+    slice-aggregate-take-part-4
+    take-part-requires-4
+    slice-aggregate-take-part-5
+    take-part-requires-5
+    shared-slice-read-t19
+    shared-slice-read-t21
+    shared-slice-read-t23
+    shared-slice-read-t25
+    returns)

@@ -1,0 +1,4 @@
+pub mod Outcome
+pub mod Flat
+pub mod Sheets
+pub mod Asking

@@ -1,0 +1,110 @@
+// What a sheet's numbers are: its sizes, and those of one channel.
+ghost use mathlib.Core.Path.{_≡_};
+ghost use Prim.Native.Nat.{_<_};
+ghost use Rattle.opening.specs.Opened.{Opens};
+ghost use Rattle.ummervia.specs.Asking.{sizesIn, sizesAnswer, noTrch, channelIn, noChannel, channelAnswer};
+use crate::ChannelAnswer;
+use crate::SizesAnswer;
+use counters::TrchNumber;
+use opening::Opened;
+use opening::open_sheet;
+use opening::share;
+use sheet::Sheet;
+use sheet::sizes::all_encoded;
+use sheet::sizes::all_equalised;
+use sheet::sizes::capacity;
+use sheet::sizes::frames;
+use sheet::wide;
+
+fn sizes_of(opened: Opened) -> SizesAnswer
+    requires { ⌜ Opens opened ⌝ }
+    ensures { λ r. ⌜ r ≡ sizesIn (opened .fields) ⌝ }
+{
+    let fields = opened.fields;
+    let contents = all_encoded(fields);
+    let capacity = capacity(fields);
+    let joined = all_equalised(fields);
+    SizesAnswer {
+        number: 0,
+        channels: wide(fields.channels),
+        slots: wide(fields.slots),
+        contents,
+        capacity,
+        joined,
+    }
+}
+
+// The sizes of a sheet.
+pub fn sizes(bytes: &[u8]) -> SizesAnswer
+    ensures { λ r. ⌜ r ≡ sizesAnswer (now (bytes .entry)) ⌝ }
+{
+    let answer = open_sheet(bytes);
+    let number = answer.number;
+    if number == 0 {
+        let opened = answer.opened;
+        return sizes_of(opened);
+    }
+    SizesAnswer {
+        number,
+        channels: 0,
+        slots: 0,
+        contents: 0,
+        capacity: 0,
+        joined: 0,
+    }
+}
+
+// Whether TrCH k, counted from 1, does not exist.
+pub fn absent(fields: Sheet, trch: TrchNumber) -> bool
+    ensures { λ r. ⌜ r ≡ noTrch fields (trch .0) ⌝ }
+{
+    if trch.0 == 0 {
+        return true;
+    }
+    wide(fields.channels) < trch.0 as u64
+}
+
+fn channel_of(opened: Opened, i: usize) -> ChannelAnswer
+    requires { ⌜ Opens opened × (i < opened .fields .channels) ⌝ }
+    ensures { λ r. ⌜ r ≡ channelIn (opened .fields) i ⌝ }
+{
+    let fields = opened.fields;
+    let sizes = opened.sizes;
+    let v = share(opened, i);
+    ChannelAnswer {
+        number: 0,
+        f: frames(fields.tti[i]),
+        e: wide(fields.e[i]),
+        n: sizes[i],
+        v,
+    }
+}
+
+fn no_channel(number: u32) -> ChannelAnswer
+    ensures { λ r. ⌜ r ≡ noChannel number ⌝ }
+{
+    ChannelAnswer {
+        number,
+        f: 0,
+        e: 0,
+        n: 0,
+        v: 0,
+    }
+}
+
+// F, E, N and V of a channel.
+pub fn channel(bytes: &[u8], trch: TrchNumber) -> ChannelAnswer
+    ensures { λ r. ⌜ r ≡ channelAnswer (now (bytes .entry)) (trch .0) ⌝ }
+{
+    let answer = open_sheet(bytes);
+    let number = answer.number;
+    if number != 0 {
+        return no_channel(number);
+    }
+    let opened = answer.opened;
+    let fields = opened.fields;
+    if absent(fields, trch) {
+        return no_channel(10);
+    }
+    channel_of(opened, trch.index())
+}

@@ -1,0 +1,98 @@
+// The calls as C has them: a slice is a pointer and a length, further answers are written through pointers, on a refusal as zeros.
+ghost use mathlib.Core.Path.{_≡_};
+ghost use Rattle.ummervia.specs.Outcome.{outcome};
+ghost use Rattle.ummervia.specs.Sheets.{readInto, answerMade, lengthFrom, writeFrom};
+ghost use Rattle.ummervia.specs.Asking.{sizesMade, sizesAnswer, channelMade, channelAnswer};
+use crate::asking::channel;
+use crate::asking::sizes;
+use crate::flat::FLAT;
+use crate::flat::lay_sheet;
+use crate::flat::take_sheet;
+use crate::sheets::sheet_length;
+use crate::sheets::sheet_read;
+use crate::sheets::sheet_write;
+use counters::TrchNumber;
+
+#[no_mangle]
+pub extern "C" fn umv_sheet_read(bytes: &[u8], fields: &mut [u16], at: &mut u64) -> u32
+    ensures { λ r. ⌜ outcome r (now (at .exit)) (now (fields .exit)) ≡ readInto (now (bytes .entry)) (now (fields .entry)) ⌝ }
+{
+    *at = 0;
+    let answer = sheet_read(bytes);
+    let number = answer.number;
+    if number != 0 {
+        return number;
+    }
+    if fields.len() != FLAT {
+        return 11;
+    }
+    let read = answer.sheet;
+    lay_sheet(read, fields);
+    *at = FLAT as u64;
+    0
+}
+
+#[no_mangle]
+pub extern "C" fn umv_sheet_length(fields: &[u16], at: &mut u64) -> u32
+    ensures { λ r. ⌜ answerMade r (now (at .exit)) ≡ lengthFrom (now (fields .entry)) ⌝ }
+{
+    *at = 0;
+    if fields.len() != FLAT {
+        return 11;
+    }
+    let answer = sheet_length(take_sheet(fields));
+    *at = answer.at;
+    answer.number
+}
+
+#[no_mangle]
+pub extern "C" fn umv_sheet_write(fields: &[u16], bytes: &mut [u8], at: &mut u64) -> u32
+    ensures { λ r. ⌜ outcome r (now (at .exit)) (now (bytes .exit)) ≡ writeFrom (now (fields .entry)) (now (bytes .entry)) ⌝ }
+{
+    *at = 0;
+    if fields.len() != FLAT {
+        return 11;
+    }
+    let answer = sheet_write(take_sheet(fields), bytes);
+    *at = answer.at;
+    answer.number
+}
+
+#[no_mangle]
+pub extern "C" fn umv_sizes(
+    bytes: &[u8],
+    channels: &mut u64,
+    slots: &mut u64,
+    contents: &mut u64,
+    capacity: &mut u64,
+    joined: &mut u64,
+) -> u32
+    ensures { λ r. ⌜ sizesMade r (now (channels .exit)) (now (slots .exit)) (now (contents .exit)) (now (capacity .exit)) (now (joined .exit)) ≡ sizesAnswer (now (bytes .entry)) ⌝ }
+{
+    let answer = sizes(bytes);
+    *channels = answer.channels;
+    *slots = answer.slots;
+    *contents = answer.contents;
+    *capacity = answer.capacity;
+    *joined = answer.joined;
+    answer.number
+}
+
+#[no_mangle]
+pub extern "C" fn umv_channel(
+    bytes: &[u8],
+    trch: u32,
+    f: &mut u64,
+    e: &mut u64,
+    n: &mut u64,
+    v: &mut u64,
+) -> u32
+    ensures { λ r. ⌜ channelMade r (now (f .exit)) (now (e .exit)) (now (n .exit)) (now (v .exit)) ≡ channelAnswer (now (bytes .entry)) trch ⌝ }
+{
+    let answer = channel(bytes, TrchNumber(trch));
+    *f = answer.f;
+    *e = answer.e;
+    *n = answer.n;
+    *v = answer.v;
+    answer.number
+}

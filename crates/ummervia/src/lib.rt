@@ -1,0 +1,26 @@
+// The public calls: each takes all inputs, asks its refusals in the order of document 01's table, and calls what stands below.
+pub mod asking;
+pub mod exports;
+pub mod flat;
+pub mod sheets;
+
+// The sizes that a caller lends buffers by, zeros where the number is not 0.
+pub struct SizesAnswer {
+    pub number: u32,
+    // I and T.
+    pub channels: u64,
+    pub slots: u64,
+    // The sum of E, D, and the sum of T_i.
+    pub contents: u64,
+    pub capacity: u64,
+    pub joined: u64,
+}
+
+// F, E, N and V of a channel, zeros where the number is not 0.
+pub struct ChannelAnswer {
+    pub number: u32,
+    pub f: u64,
+    pub e: u64,
+    pub n: u64,
+    pub v: u64,
+}

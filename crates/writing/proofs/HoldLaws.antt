@@ -1,0 +1,193 @@
+-- Bits that are written field by field: what a store of a field holds, and how long the bits are.
+use mathlib.Core.Path.{_≡_, refl, sym, ap, _∙_, subst}
+use mathlib.Core.List.{List, [], _++_}
+use Prim.Native.Nat.{ℕ, zero, suc, _+_, _-_, _*_, _≤_, _<_}
+use native.Mathlib.Numerals.{add-one}
+use native.Mathlib.Omega.{arith}
+use native.Mathlib.Decide.{decLt}
+use lib.ListN.{length, getD, replicate, List·getD-eq-default, List·getD-append}
+use lib.Seq.{paste, length-paste, getD-append-add}
+use Rattle.laws.specs.Tables.{table}
+use Rattle.laws.specs.Sums.{sumTo}
+use Rattle.laws.proofs.TableLaws.{zeros-at}
+use Rattle.bits.specs.Bits.{field}
+use Rattle.bits.proofs.BitLaws.{field-length, field-after, paste-before, paste-inside, paste-after}
+use Rattle.sheet.specs.Counts.{mostChannels, longestSheet}
+use Rattle.sheet.specs.Layout.{versionAt, versionWidth, modeAt, modeWidth, countAt, countWidth, slotsAt, slotsWidth, spareAt, spareWidth, headWidth, ttiWidth, encodedWidth, ratioWidth, codesWidth, capacityWidth, channelAt, slotWidth}
+use Rattle.sheet.specs.Fields.{ttiOf, encodedOf, ratioOf, phchsOf, capacityOf}
+use Rattle.sheet.specs.Sizes.{slotAt}
+use Rattle.sheet.specs.declared.Sheet.{Sheet}
+use Rattle.writing.specs.Written.{headBits, channelBits, capacityBits, slotsBits, Holds}
+
+-- the bits that the writer has room for
+abbrev pub room : ℕ
+room = 8 * longestSheet
+
+pub holds-zeros : (n : ℕ) → length {A = ℕ} (replicate n 0) ≡ n → Holds (replicate n 0) n []
+holds-zeros n e = record { long = e; same = zeros-at n }
+
+-- a field is put after the bits that are held
+module _ (bs : List ℕ) (n : ℕ) (l : List ℕ) (at w v : ℕ) (h : Holds bs n l) (e : length l ≡ at) (fits : at + w ≤ n) where
+  places : (i : ℕ) → Dec (i < at) → Dec (i < at + w) → getD (paste bs at (field w v) w) i 0 ≡ getD (l ++ field w v) i 0
+  places i (yes a) b =
+      paste-before bs at (field w v) w i (omega (arith, h .long)) (omega (arith, field-length w v)) a
+      ∙ h .same i
+      ∙ sym (List·getD-append l (field w v) 0 i (omega arith))
+  places i (no a) (yes b) =
+      let k : i ≡ at + (i - at) = omega arith in
+      let k2 : i ≡ length l + (i - at) = omega arith in
+      ap (λ (x : ℕ). getD (paste bs at (field w v) w) x 0) k
+      ∙ paste-inside bs at (field w v) w (i - at) (omega (arith, h .long)) (omega (arith, field-length w v)) (omega arith)
+      ∙ sym (ap (λ (x : ℕ). getD (l ++ field w v) x 0) k2 ∙ getD-append-add l (field w v) (i - at) 0)
+  places i (no a) (no b) =
+      let k : i ≡ at + w + (i - (at + w)) = omega arith in
+      let m : length (l ++ field w v) ≤ i = omega (arith, field-after l w v) in
+      let m2 : length l ≤ i = omega arith in
+      ap (λ (x : ℕ). getD (paste bs at (field w v) w) x 0) k
+      ∙ paste-after bs at (field w v) w (i - (at + w)) (omega (arith, h .long)) (omega (arith, field-length w v))
+      ∙ ap (λ (x : ℕ). getD bs x 0) (sym k)
+      ∙ h .same i
+      ∙ List·getD-eq-default l 0 m2
+      ∙ sym (List·getD-eq-default (l ++ field w v) 0 m)
+
+  -- its value given by an equal number
+  pub holds-more : {u : ℕ} {r : List ℕ} → u ≡ v → r ≡ paste bs at (field w u) w → Holds r n (l ++ field w v)
+  holds-more q g =
+      let p = g ∙ ap (λ (x : ℕ). paste bs at (field w x) w) q in
+      record {
+        long = ap length p ∙ length-paste bs at (field w v) w (omega (arith, h .long)) (omega (arith, field-length w v)) ∙ h .long;
+        same = λ i. ap (λ (x : List ℕ). getD x i 0) p ∙ places i (decLt i at) (decLt i (at + w));
+      }
+
+module _ (sh : Sheet) where
+  -- the head, without the fields that are still to come
+  abbrev pub toVersion : List ℕ
+  toVersion = field versionWidth (sh .version)
+
+  abbrev pub toMode : List ℕ
+  toMode = toVersion ++ field modeWidth (sh .mode)
+
+  abbrev pub toCount : List ℕ
+  toCount = toMode ++ field countWidth (sh .channels - 1)
+
+  abbrev pub toSlots : List ℕ
+  toSlots = toCount ++ field slotsWidth (sh .slots)
+
+  -- the bits before channel i with its TTI, and with its E too
+  abbrev pub toTti : ℕ → List ℕ
+  toTti i = channelBits sh i ++ field ttiWidth (ttiOf sh i)
+
+  abbrev pub toEncoded : ℕ → List ℕ
+  toEncoded i = toTti i ++ field encodedWidth (encodedOf sh i)
+
+  -- how long the bits are
+  pub version-length : length toVersion ≡ modeAt
+  unfolding table
+  version-length = refl
+
+  pub mode-length : length toMode ≡ countAt
+  unfolding table
+  mode-length = refl
+
+  pub count-length : length toCount ≡ slotsAt
+  unfolding table
+  count-length = refl
+
+  pub slot-count-length : length toSlots ≡ spareAt
+  unfolding table
+  slot-count-length = refl
+
+  head-length : length (headBits sh) ≡ headWidth
+  unfolding headBits table
+  head-length = refl
+
+  pub channel-length : (i : ℕ) → length (channelBits sh i) ≡ channelAt i
+  unfolding channelBits
+  channel-length zero = head-length
+  channel-length (suc i) =
+      field-after (toEncoded i) ratioWidth (ratioOf sh i - 1)
+      ∙ omega (
+        arith,
+        field-after (toTti i) encodedWidth (encodedOf sh i),
+        field-after (channelBits sh i) ttiWidth (ttiOf sh i),
+        channel-length i,
+      )
+
+  pub tti-length : (i : ℕ) → length (toTti i) ≡ channelAt i + ttiWidth
+  tti-length i = field-after (channelBits sh i) ttiWidth (ttiOf sh i) ∙ ap (λ (x : ℕ). x + ttiWidth) (channel-length i)
+
+  pub encoded-length : (i : ℕ) → length (toEncoded i) ≡ channelAt i + (ttiWidth + encodedWidth)
+  encoded-length i = field-after (toTti i) encodedWidth (encodedOf sh i) ∙ omega (arith, tti-length i)
+
+  capacity-length : (t : ℕ) (b : List ℕ) (p : ℕ) → length (capacityBits sh t b p) ≡ length b + slotWidth p
+  unfolding capacityBits
+  capacity-length t b zero = field-after b codesWidth (phchsOf sh t - 1) ∙ omega arith
+  capacity-length t b (suc p) = field-after (capacityBits sh t b p) capacityWidth (capacityOf sh t p) ∙ omega (arith, capacity-length t b p)
+
+  pub slots-length : (t : ℕ) → length (slotsBits sh t) ≡ slotAt sh t
+  unfolding slotsBits sumTo
+  slots-length zero = channel-length (sh .channels) ∙ omega arith
+  slots-length (suc t) = capacity-length t (slotsBits sh t) (phchsOf sh t) ∙ omega (arith, slots-length t)
+
+  pub caps-length : (t p : ℕ) → length (capacityBits sh t (slotsBits sh t) p) ≡ slotAt sh t + slotWidth p
+  caps-length t p = capacity-length t (slotsBits sh t) p ∙ ap (λ (x : ℕ). x + slotWidth p) (slots-length t)
+
+  -- one more channel, capacity, slot
+  channel-more : (i : ℕ) → toEncoded i ++ field ratioWidth (ratioOf sh i - 1) ≡ channelBits sh (i + 1)
+  unfolding channelBits
+  channel-more i = rw (add-one i)
+
+  capacity-more : (t : ℕ) (b : List ℕ) (p : ℕ)
+      → capacityBits sh t b p ++ field capacityWidth (capacityOf sh t p) ≡ capacityBits sh t b (p + 1)
+  unfolding capacityBits
+  capacity-more t b p = rw (add-one p)
+
+  pub slots-more : (t : ℕ) → capacityBits sh t (slotsBits sh t) (phchsOf sh t) ≡ slotsBits sh (t + 1)
+  unfolding slotsBits
+  slots-more t = rw (add-one t)
+
+  -- the head is put
+  pub head-put : (b : List ℕ) → Holds b room [] → {v m n t : ℕ} {b1 b2 b3 b4 b5 : List ℕ} → v ≡ sh .version → m ≡ sh .mode → n ≡ sh .channels
+      → t ≡ sh .slots → b1 ≡ paste b versionAt (field versionWidth v) versionWidth → b2 ≡ paste b1 modeAt (field modeWidth m) modeWidth
+      → b3 ≡ paste b2 countAt (field countWidth (n - 1)) countWidth → b4 ≡ paste b3 slotsAt (field slotsWidth t) slotsWidth
+      → b5 ≡ paste b4 spareAt (field spareWidth 0) spareWidth → Holds b5 room (headBits sh)
+  unfolding headBits
+  head-put b h ev em en et p1 p2 p3 p4 p5 =
+      let h1 = holds-more b room [] versionAt versionWidth (sh .version) h refl (omega arith) ev p1 in
+      let h2 = holds-more _ room toVersion modeAt modeWidth (sh .mode) h1 version-length (omega arith) em p2 in
+      let h3 = holds-more _ room toMode countAt countWidth (sh .channels - 1) h2 mode-length (omega arith) (ap (λ (x : ℕ). x - 1) en) p3 in
+      let h4 = holds-more _ room toCount slotsAt slotsWidth (sh .slots) h3 count-length (omega arith) et p4 in
+      holds-more _ room toSlots spareAt spareWidth 0 h4 slot-count-length (omega arith) refl p5
+
+  -- the fields of channel i are put
+  module _ (i : ℕ) (b : i < mostChannels) where
+    pub tti-put : (bs : List ℕ) → Holds bs room (channelBits sh i) → {u : ℕ} {r : List ℕ} → u ≡ ttiOf sh i
+        → r ≡ paste bs (channelAt i) (field ttiWidth u) ttiWidth → Holds r room (toTti i)
+    tti-put bs h q p = holds-more bs room (channelBits sh i) (channelAt i) ttiWidth (ttiOf sh i) h (channel-length i) (omega arith) q p
+
+    pub encoded-put : (bs : List ℕ) → Holds bs room (toTti i) → {u : ℕ} {r : List ℕ} → u ≡ encodedOf sh i
+        → r ≡ paste bs (channelAt i + ttiWidth) (field encodedWidth u) encodedWidth → Holds r room (toEncoded i)
+    encoded-put bs h q p =
+        holds-more bs room (toTti i) (channelAt i + ttiWidth) encodedWidth (encodedOf sh i) h (tti-length i) (omega arith) q p
+
+    pub ratio-put : (bs : List ℕ) → Holds bs room (toEncoded i) → {u : ℕ} {r : List ℕ} → u ≡ ratioOf sh i
+        → r ≡ paste bs (channelAt i + (ttiWidth + encodedWidth)) (field ratioWidth (u - 1)) ratioWidth → Holds r room (channelBits sh (i + 1))
+    ratio-put bs h {u} {r} q p =
+        subst (Holds r room) (channel-more i)
+        (holds-more bs room (toEncoded i) (channelAt i + (ttiWidth + encodedWidth)) ratioWidth (ratioOf sh i - 1) h (encoded-length i) (omega arith)
+        (ap (λ (x : ℕ). x - 1) q) p)
+
+  -- P of slot t is put, and a capacity
+  module _ (t start : ℕ) (e : start ≡ slotAt sh t) where
+    pub slot-put : (bs : List ℕ) → Holds bs room (slotsBits sh t) → start + codesWidth ≤ room → {u : ℕ} {r : List ℕ} → u ≡ phchsOf sh t
+        → r ≡ paste bs start (field codesWidth (u - 1)) codesWidth → Holds r room (capacityBits sh t (slotsBits sh t) 0)
+    unfolding capacityBits
+    slot-put bs h fits q p =
+        holds-more bs room (slotsBits sh t) start codesWidth (phchsOf sh t - 1) h (slots-length t ∙ sym e) fits (ap (λ (x : ℕ). x - 1) q) p
+
+    pub capacity-put : (bs : List ℕ) (at k : ℕ) → at ≡ start + slotWidth k → at + capacityWidth ≤ room
+        → Holds bs room (capacityBits sh t (slotsBits sh t) k) → {u : ℕ} {r : List ℕ} → u ≡ capacityOf sh t k
+        → r ≡ paste bs at (field capacityWidth u) capacityWidth → Holds r room (capacityBits sh t (slotsBits sh t) (k + 1))
+    capacity-put bs at k ea fits h {u} {r} q p =
+        subst (Holds r room) (capacity-more t (slotsBits sh t) k)
+        (holds-more bs room (capacityBits sh t (slotsBits sh t) k) at capacityWidth (capacityOf sh t k) h (omega (arith, caps-length t k)) fits q p)

@@ -1,0 +1,41 @@
+-- The longest sheet is reached: a sheet with every channel, slot and code there is, which reading accepts.
+use mathlib.Core.Path.{_≡_, refl, ap, _∙_}
+use lib.ListN.{length, replicate}
+use Rattle.laws.specs.Sums.{sumTo, anyTo}
+use Rattle.sheet.specs.Counts.{mostChannels, mostSlots, mostCodes, mostCapacities, longestSheet}
+use Rattle.sheet.specs.Sizes.{bytesNeeded}
+use Rattle.sheet.specs.Numbers.{readNumber}
+use Rattle.sheet.specs.declared.Sheet.{Sheet}
+use Rattle.sheet.specs.declared.SheetAnswer.{SheetAnswer}
+use Rattle.writing.specs.Numbers.{fieldNumber}
+use Rattle.writing.specs.Written.{bytesOf}
+use Rattle.writing.proofs.ReadWritten.{bytes-length, bytes-back}
+
+-- one bit a channel, and one a physical channel
+unfoldable pub full : Sheet
+full =
+    record {
+      version = 1;
+      mode = 0;
+      channels = mostChannels;
+      slots = mostSlots;
+      tti = replicate mostChannels 0;
+      e = replicate mostChannels 1;
+      rm = replicate mostChannels 1;
+      phchs = replicate mostSlots mostCodes;
+      caps = replicate mostCapacities 1;
+    }
+
+pub full-sound : fieldNumber full ≡ 0
+unfolding full sumTo anyTo
+full-sound = refl
+
+full-need : bytesNeeded full ≡ longestSheet
+unfolding full sumTo
+full-need = refl
+
+pub full-length : length (bytesOf full) ≡ longestSheet
+full-length = bytes-length full ∙ full-need
+
+pub full-accepted : readNumber (bytesOf full) ≡ 0
+full-accepted = ap (λ (x : SheetAnswer). x .number) (bytes-back full full-sound)

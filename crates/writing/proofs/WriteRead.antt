@@ -1,0 +1,119 @@
+-- An accepted sheet written again gives the same bytes (S9), and none is longer than the longest.
+use mathlib.Core.Path.{_≡_, refl, sym, ap, _∙_, subst}
+use mathlib.Core.List.{List, []}
+use Prim.Native.Nat.{ℕ, zero, suc, _+_, _-_, _*_, _≤_, _<_}
+use native.Mathlib.Omega.{arith}
+use native.Mathlib.Decide.{decLt}
+use lib.ListN.{length, getD, List·getD-eq-default}
+use Rattle.laws.specs.Sums.{sumTo}
+use Rattle.bits.specs.Bits.{val, bitAt, bitsAt, packed, bitOf}
+use Rattle.bits.proofs.BitLaws.{bit-lt, packed-again, packed-same, val-none}
+use Rattle.sheet.specs.Counts.{longestSheet}
+use Rattle.sheet.specs.Layout.{versionAt, versionWidth, modeAt, modeWidth, countAt, countWidth, slotsAt, slotsWidth, spareAt, spareWidth, ttiWidth, encodedWidth, ratioWidth, codesWidth, capacityWidth, channelAt, slotWidth}
+use Rattle.sheet.specs.Fields.{channelsIn, slotsIn, slotFrom, phchsIn, sheetOf, ttiOf, encodedOf, ratioOf, phchsOf, capacityOf}
+use Rattle.sheet.specs.Sizes.{slotAt, bitsNeeded}
+use Rattle.sheet.specs.Numbers.{readNumber}
+use Rattle.sheet.proofs.FieldLaws.{startIn, version-in, mode-in, channels-in, slots-in, tti-in, encoded-in, ratio-in, phchs-in, caps-in, ranged-in}
+use Rattle.sheet.proofs.SizeLaws.{bytes-most}
+use Rattle.sheet.proofs.NumberLaws.{Readable, readable}
+use Rattle.writing.specs.Numbers.{writeNumber}
+use Rattle.writing.specs.Written.{headBits, channelBits, capacityBits, slotsBits, sheetBits, bytesOf}
+use Rattle.writing.proofs.HoldLaws.{toVersion, toMode, toCount, toSlots, toTti, toEncoded, version-length, mode-length, count-length, slot-count-length, channel-length, tti-length, encoded-length, slots-length, caps-length}
+use Rattle.writing.proofs.RangeLaws.{Sound, sound-zero, write-zero}
+use Rattle.writing.proofs.BeginLaws.{Begins, begins-more}
+
+module _ (s : List ℕ) where
+  -- the slots stand where the fields say
+  slot-in : (t : ℕ) → t ≤ slotsIn s → slotFrom s (startIn s) t ≡ slotAt (sheetOf s) t
+  unfolding slotFrom sumTo
+  slot-in zero l = ap channelAt (sym (channels-in s)) ∙ omega arith
+  slot-in (suc t) l =
+      let p : phchsOf (sheetOf s) t ≡ phchsIn s (startIn s) t = phchs-in s t l in
+      let q : slotFrom s (startIn s) t ≡ slotAt (sheetOf s) t = slot-in t (omega arith) in
+      omega arith
+
+  codes-up : (t : ℕ) → t < slotsIn s → phchsOf (sheetOf s) t - 1 ≡ val (bitAt s) (slotAt (sheetOf s) t) codesWidth
+  codes-up t l =
+      ap (λ (x : ℕ). x - 1) (phchs-in s t l) ∙ omega arith ∙ ap (λ (x : ℕ). val (bitAt s) x codesWidth) (slot-in t (omega arith))
+
+  capacity-up : (t p : ℕ) → t < slotsIn s → p < phchsOf (sheetOf s) t
+      → capacityOf (sheetOf s) t p ≡ val (bitAt s) (slotAt (sheetOf s) t + slotWidth p) capacityWidth
+  capacity-up t p l k =
+      caps-in s t p l (subst (λ (x : ℕ). p < x) (phchs-in s t l) k)
+      ∙ ap (λ (x : ℕ). val (bitAt s) (x + slotWidth p) capacityWidth) (slot-in t (omega arith))
+
+  -- the bytes begin with the bits of their fields, where the spare bits are 0
+  module _ (z : bitsAt s spareAt spareWidth ≡ 0) where
+    head-up : Begins (bitAt s) (headBits (sheetOf s))
+    unfolding headBits
+    head-up =
+        let sh = sheetOf s in
+        let f = bitAt s in
+        let two = bit-lt s in
+        let h0 : Begins f [] = record { bit = λ i l. absurd (omega arith) } in
+        let h1 = begins-more f [] versionAt versionWidth (sh .version) two refl (version-in s) h0 in
+        let h2 = begins-more f (toVersion sh) modeAt modeWidth (sh .mode) two (version-length sh) (mode-in s) h1 in
+        let h3 = begins-more f (toMode sh) countAt countWidth (sh .channels - 1) two (mode-length sh) (omega (arith, channels-in s)) h2 in
+        let h4 = begins-more f (toCount sh) slotsAt slotsWidth (sh .slots) two (count-length sh) (slots-in s) h3 in
+        begins-more f (toSlots sh) spareAt spareWidth 0 two (slot-count-length sh) (sym z) h4
+
+    channels-up : (i : ℕ) → i ≤ channelsIn s → Begins (bitAt s) (channelBits (sheetOf s) i)
+    unfolding channelBits
+    channels-up zero l = head-up
+    channels-up (suc i) l =
+        let sh = sheetOf s in
+        let f = bitAt s in
+        let two = bit-lt s in
+        let h1 =
+        begins-more f (channelBits sh i) (channelAt i) ttiWidth (ttiOf sh i) two (channel-length sh i) (tti-in s i l) (channels-up i (omega arith))
+        in
+        let h2 = begins-more f (toTti sh i) (channelAt i + ttiWidth) encodedWidth (encodedOf sh i) two (tti-length sh i) (encoded-in s i l) h1 in
+        begins-more f (toEncoded sh i) (channelAt i + (ttiWidth + encodedWidth)) ratioWidth (ratioOf sh i - 1) two (encoded-length sh i)
+        (omega (arith, ratio-in s i l)) h2
+
+    caps-up : (t : ℕ) → t < slotsIn s → Begins (bitAt s) (slotsBits (sheetOf s) t) → (p : ℕ) → p ≤ phchsOf (sheetOf s) t
+        → Begins (bitAt s) (capacityBits (sheetOf s) t (slotsBits (sheetOf s) t) p)
+    unfolding capacityBits
+    caps-up t l h zero k =
+        let sh = sheetOf s in
+        begins-more (bitAt s) (slotsBits sh t) (slotAt sh t) codesWidth (phchsOf sh t - 1) (bit-lt s) (slots-length sh t) (codes-up t l) h
+    caps-up t l h (suc p) k =
+        let sh = sheetOf s in
+        begins-more (bitAt s) (capacityBits sh t (slotsBits sh t) p) (slotAt sh t + slotWidth p) capacityWidth (capacityOf sh t p) (bit-lt s)
+        (caps-length sh t p) (capacity-up t p l k) (caps-up t l h p (omega arith))
+
+    slots-up : (t : ℕ) → t ≤ slotsIn s → Begins (bitAt s) (slotsBits (sheetOf s) t)
+    unfolding slotsBits
+    slots-up zero l = channels-up (sheetOf s .channels) (omega (arith, channels-in s))
+    slots-up (suc t) l = caps-up t l (slots-up t (omega arith)) (phchsOf (sheetOf s) t) (omega arith)
+
+    sheet-up : Begins (bitAt s) (sheetBits (sheetOf s))
+    sheet-up = slots-up (sheetOf s .slots) (omega (arith, slots-in s))
+
+  bits-same : Readable s → (i : ℕ) → i < 8 * length s → Dec (i < bitsNeeded (sheetOf s)) → bitOf (sheetBits (sheetOf s)) i ≡ bitAt s i
+  bits-same r i b (yes l) = sym (sheet-up (r .spare) .bit i (omega (arith, slots-length (sheetOf s) (sheetOf s .slots))))
+  bits-same r i b (no l) =
+      let n = bitsNeeded (sheetOf s) in
+      let m : length (sheetBits (sheetOf s)) ≤ i = omega (arith, slots-length (sheetOf s) (sheetOf s .slots)) in
+      let k : n + (i - n) ≡ i = omega arith in
+      List·getD-eq-default (sheetBits (sheetOf s)) 0 m
+      ∙ sym (val-none (bitAt s) n (8 * length s - n) (i - n) (r .padding) (omega arith))
+      ∙ ap (bitAt s) k
+
+  pub written-again : ((i : ℕ) → getD s i 0 < 256) → readNumber s ≡ 0 → bytesOf (sheetOf s) ≡ s
+  written-again byte h =
+      let r = readable s h in
+      ap (packed (bitOf (sheetBits (sheetOf s)))) (sym (r .exact))
+      ∙ packed-same (bitOf (sheetBits (sheetOf s))) (bitAt s) (length s) (λ i l. bits-same r i l (decLt i (bitsNeeded (sheetOf s))))
+      ∙ packed-again s byte
+
+  module _ (h : readNumber s ≡ 0) where
+    -- writing accepts the fields of an accepted sheet, into a buffer of its length
+    pub accepted-again : writeNumber (sheetOf s) (length s) ≡ 0
+    accepted-again =
+        let r = readable s h in
+        let w : Sound (sheetOf s) = record { version = r .version; some = r .some; ranged = ranged-in s; loads = r .loads } in
+        write-zero (sheetOf s) (length s) (record { fields = sound-zero (sheetOf s) w; exact = r .exact })
+
+    pub longest : length s ≤ longestSheet
+    longest = subst (λ (x : ℕ). x ≤ longestSheet) (sym (readable s h .exact)) (bytes-most (sheetOf s) (ranged-in s))

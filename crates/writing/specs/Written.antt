@@ -1,0 +1,77 @@
+-- The bits of a sheet's fields, one field after the other; its bytes; what writing answers.
+use mathlib.Core.Path.{_≡_}
+use mathlib.Core.List.{List, _++_}
+use Prim.Native.Nat.{ℕ, zero, suc, _-_, _*_, _/_, _%_}
+use lib.ListN.{getD, length}
+use Rattle.laws.specs.Tables.{table, upTo}
+use Rattle.counters.specs.Lines.{given, answerOf}
+use Rattle.counters.specs.declared.Answer.{Answer}
+use Rattle.bits.specs.Bits.{field, packed, bitOf}
+use Rattle.sheet.specs.Counts.{mostChannels, mostSlots, mostCodes, mostCapacities}
+use Rattle.sheet.specs.Layout.{versionWidth, modeWidth, countWidth, slotsWidth, spareWidth, ttiWidth, encodedWidth, ratioWidth, codesWidth, capacityWidth}
+use Rattle.sheet.specs.Fields.{ttiOf, encodedOf, ratioOf, phchsOf, capacityOf}
+use Rattle.sheet.specs.Sizes.{bytesNeeded}
+use Rattle.sheet.specs.declared.Sheet.{Sheet}
+use Rattle.writing.specs.Numbers.{fieldNumber, writeNumber}
+
+-- version, mode, I-1, T, spare
+unfoldable pub headBits : Sheet → List ℕ
+headBits sh =
+    (((field versionWidth (sh .version) ++ field modeWidth (sh .mode)) ++ field countWidth (sh .channels - 1)) ++ field slotsWidth (sh .slots))
+    ++ field spareWidth 0
+
+-- those, and TTI, E, RM-1 of the first i channels
+unfoldable pub channelBits : Sheet → ℕ → List ℕ
+channelBits sh zero = headBits sh
+channelBits sh (suc i) =
+    ((channelBits sh i ++ field ttiWidth (ttiOf sh i)) ++ field encodedWidth (encodedOf sh i)) ++ field ratioWidth (ratioOf sh i - 1)
+
+-- bits before, then P-1 of slot t and the first p of its capacities
+unfoldable pub capacityBits : Sheet → ℕ → List ℕ → ℕ → List ℕ
+capacityBits sh t before zero = before ++ field codesWidth (phchsOf sh t - 1)
+capacityBits sh t before (suc p) = capacityBits sh t before p ++ field capacityWidth (capacityOf sh t p)
+
+-- the head, the channels and the first t slots
+unfoldable pub slotsBits : Sheet → ℕ → List ℕ
+slotsBits sh zero = channelBits sh (sh .channels)
+slotsBits sh (suc t) = capacityBits sh t (slotsBits sh t) (phchsOf sh t)
+
+abbrev pub sheetBits : Sheet → List ℕ
+sheetBits sh = slotsBits sh (sh .slots)
+
+-- the bytes: eight bits each, zeros past the last field
+abbrev pub bytesOf : Sheet → List ℕ
+bytesOf sh = packed (bitOf (sheetBits sh)) (bytesNeeded sh)
+
+-- what asking for the length answers: the bytes that the sheet will have
+abbrev pub lengthAnswer : Sheet → Answer
+lengthAnswer sh = answerOf (fieldNumber sh) (bytesNeeded sh)
+
+-- what writing into a buffer that was `old` answers, and what the buffer then holds
+abbrev pub writeAnswer : Sheet → List ℕ → Answer
+writeAnswer sh old = answerOf (writeNumber sh (length old)) (bytesNeeded sh)
+
+abbrev pub writtenTo : Sheet → List ℕ → List ℕ
+writtenTo sh old = given (writeNumber sh (length old)) (bytesOf sh) old
+
+-- the fields with zeros past I, T and P: what a sheet that was written is read as
+unfoldable pub trimmed : Sheet → Sheet
+trimmed sh =
+    record {
+      version = sh .version;
+      mode = sh .mode;
+      channels = sh .channels;
+      slots = sh .slots;
+      tti = table (λ i. upTo (sh .channels) i (ttiOf sh i)) 0 mostChannels;
+      e = table (λ i. upTo (sh .channels) i (encodedOf sh i)) 0 mostChannels;
+      rm = table (λ i. upTo (sh .channels) i (ratioOf sh i)) 0 mostChannels;
+      phchs = table (λ t. upTo (sh .slots) t (phchsOf sh t)) 0 mostSlots;
+      caps =
+          table (λ m. upTo (mostCodes * sh .slots) m (upTo (phchsOf sh (m / mostCodes)) (m % mostCodes) (getD (sh .caps) m 0))) 0
+          mostCapacities;
+    }
+
+-- n bits, one to a byte, of which the first are those of a list and the others 0
+pub record Holds (bs : List ℕ) (n : ℕ) (bits : List ℕ) : Type 0 where
+  pub long : length bs ≡ n
+  pub same : (i : ℕ) → getD bs i 0 ≡ getD bits i 0

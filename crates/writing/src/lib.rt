@@ -1,0 +1,3 @@
+// A sheet's bytes, written from its fields.
+pub mod numbers;
+pub mod written;
