@@ -21,14 +21,15 @@ sub-result c = search needs
 div-result : tie.Need-div-result
 div-result c = search needs
 
-add-result : tie.Need-add-result
-add-result c = omega (arith, div-le-self (c .wide .result - 1) (c .before .before .frames .result))
-
+-- before the bound, so that a wrong N is what a check names first
 returns-2 : tie.Need-returns-2
 returns-2 c = (
   size-some _ _ (c .wide .ensures .0) (c .before .before .frames .ensures .0) (c .before .if1 .left),
   omega (arith, div-le-self (c .wide .result - 1) (c .before .before .frames .result)),
 )
+
+add-result : tie.Need-add-result
+add-result c = omega (arith, div-le-self (c .wide .result - 1) (c .before .before .frames .result))
 
 pub segment-spec : {M : Type 1} → statement M
 segment-spec =

@@ -1,0 +1,75 @@
+# make run: a first look. make test: everything, as the gate runs it. make ctest: the edit loop. make clean.
+
+SHELL := /bin/bash
+.SHELLFLAGS := -eu -o pipefail -c
+.PHONY: help run test ctest setup clean
+.DEFAULT_GOAL := help
+.NOTPARALLEL: # rt works with all processors by itself, and rt ci removes target/
+
+# Outside vectors, bigger than the repository's own; where the file is not there it is passed over.
+VECTORS ?= ../shared/vectors/base.txt
+
+# rt compiles for x86-64 on every machine: elsewhere such programs are linked by a cross compiler and run by qemu.
+ifeq ($(shell uname -m),x86_64)
+CC := gcc
+RUN :=
+PACKAGES := gcc libc6-dev
+else
+CC := x86_64-linux-gnu-gcc
+RUN := qemu-x86_64 -L /usr/x86_64-linux-gnu
+PACKAGES := gcc-x86-64-linux-gnu libc6-dev-amd64-cross qemu-user
+run: setup
+endif
+
+CFLAGS := -static -O2 -std=c11 -Wall -Wextra -Werror -Iinclude
+ARCHIVE := target/staticlib/libummervia.a
+LISTER := target/bin/lister
+SOURCES := crates.txt $(shell find crates -type f)
+
+help:
+	@head -n 1 Makefile
+
+run:
+	rt check lister
+	@echo 'examples/example.sheet holds the bytes'$$(od -A n -t x1 examples/example.sheet)': the sheet of one channel of'
+	@echo '6 bits a frame, in one slot with one physical channel of 4 bits. The sheet lister prints of it:'
+	@$(RUN) $(LISTER) < examples/example.sheet
+
+# The log is kept outside target/ while rt ci runs, which removes that. The line with the verdict comes last, if all passed.
+test: setup
+	@log=$$(mktemp); status=0; \
+	rt ci 2>&1 | tee $$log || status=$$?; \
+	install -D -m 644 $$log target/ci.log; rm $$log; exit $$status
+	@$(MAKE) --no-print-directory ctest
+	@tail -n 1 target/ci.log | grep -Ex '[0-9]+ passed, 0 failed'
+
+ctest: target/c/calls target/c/vectors target/c/sizes $(LISTER)
+	$(RUN) target/c/calls
+	$(RUN) target/c/vectors tests/cases/sheet.txt
+	@if [ -f '$(VECTORS)' ]; then echo '$(RUN) target/c/vectors $(VECTORS)'; $(RUN) target/c/vectors '$(VECTORS)'; \
+	else echo 'vectors: $(VECTORS) is not there: skipped'; fi
+	tests/lister.sh $(RUN) $(LISTER)
+	$(RUN) target/c/sizes examples/example.sheet
+
+# Installs only what is missing: asked by linking a program and running it.
+setup:
+	@mkdir -p target/c; echo 'int main(void) { return 0; }' > target/c/probe.c; \
+	try() { $(CC) -static target/c/probe.c -o target/c/probe && $(RUN) target/c/probe; }; \
+	try 2> /dev/null || { apt-get update && apt-get install -y --no-upgrade --no-install-recommends $(PACKAGES) && try; }
+
+target/c/%: tests/%.c include/ummervia.h $(ARCHIVE)
+	@mkdir -p $(@D)
+	$(CC) $(CFLAGS) $< $(ARCHIVE) -o $@
+
+target/c/%: examples/%.c include/ummervia.h $(ARCHIVE)
+	@mkdir -p $(@D)
+	$(CC) $(CFLAGS) $< $(ARCHIVE) -o $@
+
+$(ARCHIVE): $(SOURCES)
+	rt staticlib ummervia
+
+$(LISTER): $(SOURCES)
+	rt check lister
+
+clean:
+	rm -rf target

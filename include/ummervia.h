@@ -1,0 +1,120 @@
+/*
+ * Ummervia: one 10 ms radio frame of one CCTrCH (3.84 Mcps TDD) and the format sheet that describes it.
+ *
+ * What holds for every call:
+ *
+ * - It returns a number: UMV_OK (0), or why it was refused (enum umv_number). Where several reasons hold, the lowest
+ *   number is given, except where a call says that it looks at a length before it can look at anything else.
+ * - A slice is a pointer to its first value and a count of VALUES, not of bytes. Of an empty slice (count 0) the pointer
+ *   is not followed.
+ * - The caller owns all memory, lends it for the time of the call, and nothing of it is kept after the call returns.
+ *   No call allocates memory or keeps state, so calls may run at the same time from several threads, as long as what one
+ *   of them writes is lent to no other.
+ * - What is lent to one call must not overlap: no slice with another, no answer with a slice, no answer with another.
+ * - A refused call leaves every lent slice as it was.
+ * - The pointers to single values at the end of a parameter list are answers: they must not be null and are always
+ *   written, on a refusal with zeros; only UMV_CONTENT (12) gives in `at` the index of the first bad value, from 0.
+ */
+#ifndef UMMERVIA_H
+#define UMMERVIA_H
+
+#include <stddef.h>
+#include <stdint.h>
+
+#ifdef __cplusplus
+extern "C" {
+#endif
+
+/* The numbers a call answers. Each call below says which of them it can give. */
+enum umv_number {
+    UMV_OK = 0,             /* accepted */
+    UMV_SHORT = 1,          /* the sheet is shorter than 2 bytes */
+    UMV_VERSION = 2,        /* its version is not 1 */
+    UMV_NO_SLOT = 3,        /* it has no slot (T = 0) */
+    UMV_FORM = 4,           /* its length is not what its fields need, or a spare or padding bit is set; when a sheet is
+                               written from fields: a field is outside its range, and neither 2, 3 nor 5 names it */
+    UMV_NO_CAPACITY = 5,    /* a capacity is 0 */
+    UMV_MUCH_CONTENT = 6,   /* the equalised sizes T_i of all channels sum up to more than 60,000 bits */
+    UMV_MUCH_CAPACITY = 7,  /* the capacities of all slots sum up to more than 60,000 bits */
+    UMV_NO_CONTENT = 8,     /* E is 0 for every channel */
+    UMV_FRAME_NUMBER = 9,   /* the frame number is over 255 */
+    UMV_ABSENT = 10,        /* the TrCH, slot, PhCH, place or bit asked for does not exist */
+    UMV_LENGTH = 11,        /* a lent slice is not exactly of the length needed */
+    UMV_CONTENT = 12        /* a content byte is neither 0 nor 1, or a soft value is not from -65,536 to 65,536, both
+                               allowed (a NaN is not) */
+};
+
+/*
+ * The fields of a sheet as UMV_FIELDS numbers of 16 bits. These are their places, counted from 0; `channel`, `slot` and
+ * `phch` below are counted from 0 too. A place that the counts I, T and P leave unused holds no field: reading leaves 0
+ * there, writing does not look at it.
+ */
+enum umv_field {
+    UMV_FIELD_VERSION = 0,     /* 1 */
+    UMV_FIELD_MODE = 1,        /* second interleaving: 0 over the frame, 1 slot by slot */
+    UMV_FIELD_CHANNELS = 2,    /* I, the number of transport channels, 1 to 8 */
+    UMV_FIELD_SLOTS = 3,       /* T, the number of slots, 1 to 15 */
+    UMV_FIELD_TTI = 4,         /* + channel: 0, 1, 2, 3 for 10, 20, 40, 80 ms, which are F = 1, 2, 4, 8 frames */
+    UMV_FIELD_E = 12,          /* + channel: E, encoded bits of one TTI, 0 to 16,383 */
+    UMV_FIELD_RM = 20,         /* + channel: RM, the rate matching attribute, 1 to 256 */
+    UMV_FIELD_PHCHS = 28,      /* + slot: P, physical channels of the slot, 1 to 16 */
+    UMV_FIELD_CAPACITIES = 43  /* + 16 * slot + phch: U, capacity of that PhCH in bits, 1 to 4,095 */
+};
+
+#define UMV_FIELDS 283      /* values in the fields of a sheet */
+#define UMV_SHEET_MOST 394  /* bytes of the longest sheet */
+
+/*
+ * Reads a sheet into its fields.
+ * fields  fields_len values, overwritten when the call is accepted; fields_len must be UMV_FIELDS
+ * at      answer: the values written, UMV_FIELDS
+ * Numbers: 1 to 8 of the sheet; then 11 if fields_len is not UMV_FIELDS.
+ */
+uint32_t umv_sheet_read(const uint8_t *sheet, size_t sheet_len, uint16_t *fields, size_t fields_len, uint64_t *at);
+
+/*
+ * The length of the sheet that umv_sheet_write makes of these fields.
+ * fields  fields_len values, only read; fields_len must be UMV_FIELDS
+ * at      answer: the length in bytes, at most UMV_SHEET_MOST
+ * Numbers: 11 if fields_len is not UMV_FIELDS; then 2 to 8 of the fields.
+ */
+uint32_t umv_sheet_length(const uint16_t *fields, size_t fields_len, uint64_t *at);
+
+/*
+ * Writes fields as a sheet. Reading that sheet gives the fields back, with zeros past the counts.
+ * fields  fields_len values, only read; fields_len must be UMV_FIELDS
+ * sheet   sheet_len bytes, overwritten when the call is accepted; sheet_len must be what umv_sheet_length answers
+ * at      answer: the bytes written, sheet_len
+ * Numbers: 11 if fields_len is not UMV_FIELDS; then 2 to 8 of the fields; then 11 if sheet_len is not the length needed.
+ */
+uint32_t umv_sheet_write(const uint16_t *fields, size_t fields_len, uint8_t *sheet, size_t sheet_len, uint64_t *at);
+
+/*
+ * The sizes by which a caller measures the memory it lends.
+ * channels  answer: I, transport channels
+ * slots     answer: T
+ * contents  answer: the sum of E over all channels, encoded bits of all current TTIs
+ * capacity  answer: D, the sum of all capacities, the bits of one frame
+ * joined    answer: the sum of the equalised sizes T_i = F * N over all channels, in bits
+ * Numbers: 1 to 8 of the sheet.
+ */
+uint32_t umv_sizes(const uint8_t *sheet, size_t sheet_len, uint64_t *channels, uint64_t *slots, uint64_t *contents,
+                   uint64_t *capacity, uint64_t *joined);
+
+/*
+ * The numbers of one transport channel.
+ * trch  the channel, counted from 1, at most I
+ * f     answer: F, frames of its TTI: 1, 2, 4 or 8
+ * e     answer: E, encoded bits of one TTI
+ * n     answer: N, bits of one of its F segments, before rate matching
+ * v     answer: V, bits it has in one frame, after rate matching; the V of all channels sum up to the capacity D
+ * Numbers: 1 to 8 of the sheet; then 10 if trch is 0 or over I.
+ */
+uint32_t umv_channel(const uint8_t *sheet, size_t sheet_len, uint32_t trch, uint64_t *f, uint64_t *e, uint64_t *n,
+                     uint64_t *v);
+
+#ifdef __cplusplus
+}
+#endif
+
+#endif
