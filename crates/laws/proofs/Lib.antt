@@ -2,3 +2,4 @@ pub mod SumLaws
 pub mod TableLaws
 pub mod TestLaws
 pub mod LaidLaws
+pub mod LeastLaws

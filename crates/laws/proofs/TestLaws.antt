@@ -1,6 +1,10 @@
--- Laws of "one or the other holds".
+-- Laws of tests: "one or the other holds", cases of an order, and tests that are computed.
 use mathlib.Core.Path.{_≡_, refl, sym, ap, ap₂, _∙_}
-use mathlib.Core.Bool.{Bool, true, false, true≢false, _||_, or-true}
+use mathlib.Core.Bool.{Bool, true, false, true≢false, false≢true, _||_, or-true}
+use Prim.Native.Nat.{ℕ, zero, suc, _≤_, _<_}
+use native.Mathlib.Omega.{arith}
+use native.Mathlib.Decide.{decLe}
+use lib.Dec.{T}
 
 pub or-left : (a b : Bool) → (a || b) ≡ false → a ≡ false
 or-left false b h = refl
@@ -22,3 +26,43 @@ or-third a b c e = sym (ap (λ (x : Bool). a || (b || x)) e ∙ ap (λ (x : Bool
 
 pub or-none : (a b c : Bool) → a ≡ false → b ≡ false → c ≡ false → false ≡ (a || (b || c))
 or-none a b c ea eb ec = sym (ap₂ _||_ ea (ap₂ _||_ eb ec))
+
+-- two cases of an order
+pub split {ℓ} : {X : Type ℓ} (a b : ℕ) → (a ≤ b → X) → (b < a → X) → X
+split a b f g = elim (decLe a b) [ yes h ↦ f h | no h ↦ g (omega arith) ]
+
+-- a test that the checker computes at each number below n, and what it says at one of them
+unfoldable pub both : Bool → Bool → Bool
+both true b = b
+both false b = false
+
+pub both-left : (a b : Bool) → T (both a b) → T a
+unfolding both
+both-left true b t = tt
+both-left false b t = t
+
+pub both-right : (a b : Bool) → T (both a b) → T b
+unfolding both
+both-right true b t = t
+both-right false b t = absurd t
+
+unfoldable pub below : (ℕ → Bool) → ℕ → Bool
+below f zero = true
+below f (suc n) = both (f n) (below f n)
+
+pub below-at : (f : ℕ → Bool) (n : ℕ) → T (below f n) → (k : ℕ) → k < n → T (f k)
+unfolding below
+below-at f zero t k h = absurd (omega arith)
+below-at f (suc n) t k h =
+    split n k
+    (λ le. let q : k ≡ n = omega arith in rw q (both-left (f n) (below f n) t))
+    (λ lt. below-at f n (both-right (f n) (below f n) t) k lt)
+
+unfoldable pub implies : Bool → Bool → Bool
+implies true b = b
+implies false b = true
+
+pub implied : (a b : Bool) → T (implies a b) → a ≡ true → T b
+unfolding implies
+implied true b t q = t
+implied false b t q = absurd (false≢true q)

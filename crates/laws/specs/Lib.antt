@@ -1,3 +1,4 @@
 pub mod Sums
 pub mod Tables
 pub mod Laid
+pub mod Least
