@@ -1,7 +1,7 @@
 // The four counters that document 002 lists apart, and the answer of a call.
 // Each counter is a type of its own, so that none is taken for another; a number is taken out of one only where a step defines it.
 ghost use mathlib.Core.Path.{_≡_};
-ghost use Prim.Native.Nat.{_-_, _<_};
+ghost use Prim.Native.Nat.{_-_, _%_, _≤_, _<_};
 
 // The number of a bit in its channel, counted from 1.
 pub struct BitNumber(pub u32);
@@ -24,6 +24,16 @@ pub struct PhchNumber(pub u32);
 
 // The frame number, 0 to 255.
 pub struct FrameNumber(pub u32);
+
+impl FrameNumber {
+    // n = frame number mod F, counted from 0.
+    pub fn within(self, f: u64) -> usize
+        requires { ⌜ (0 < f) × (f ≤ 8) ⌝ }
+        ensures { λ r. ⌜ (r ≡ self .0 % f) × (r < f) ⌝ }
+    {
+        (self.0 as u64 % f) as usize
+    }
+}
 
 // A call's number, 0 where it is accepted, and how many values it wrote; with number 12 the index of the first bad value.
 pub struct Answer {

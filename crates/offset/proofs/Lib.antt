@@ -1,0 +1,6 @@
+pub mod QuotientLaws
+pub mod Meaning
+pub mod Distinct
+pub mod Whole
+pub mod Bounds
+pub mod Example
