@@ -3,3 +3,4 @@ pub mod TableLaws
 pub mod TestLaws
 pub mod LaidLaws
 pub mod LeastLaws
+pub mod JoinedLaws

@@ -2,3 +2,4 @@ pub mod Sums
 pub mod Tables
 pub mod Laid
 pub mod Least
+pub mod Joined

@@ -13,6 +13,8 @@ use lib.IntN.{pos, negsuc, negℤ, _-ℤ_}
 use lib.ListN.{getD, set, replicate}
 use Rattle.laws.specs.Sums.{sumTo, anyTo}
 use Rattle.laws.specs.Tables.{table, upTo}
+use Rattle.laws.specs.Least.{Passes}
+use Rattle.laws.proofs.LeastLaws.{first-passes}
 use Rattle.laws.proofs.SumLaws.{sum-more}
 use Rattle.laws.proofs.TableLaws.{zeros-at, table-set, filled-all, filled-at, upTo-past}
 use Rattle.sheet.specs.Counts.{mostChannels, mostEncoded, mostRatio}
@@ -21,7 +23,7 @@ use Rattle.sheet.specs.Sizes.{framesOf, sizeOf, capacityAll}
 use Rattle.sheet.specs.Numbers.{silent}
 use Rattle.sheet.specs.Range.{Ranged}
 use Rattle.sheet.specs.declared.Sheet.{Sheet}
-use Rattle.matching.specs.Shares.{cutIn, shareIn, weightOf, weightAll, cutOf, shareOf, cutsOf}
+use Rattle.matching.specs.Shares.{cutIn, shareIn, weightOf, weightAll, cutOf, shareOf, channelOf, cutsOf}
 
 -- Z and V of any weights w of n channels, not all 0
 module _ (d : ℕ) (w : ℕ → ℕ) (n : ℕ) (p : 0 < sumTo w n) where
@@ -58,6 +60,14 @@ module _ (d : ℕ) (w : ℕ → ℕ) (n : ℕ) (p : 0 < sumTo w n) where
 pub empty-share : (sh : Sheet) (i : ℕ) → 0 < weightAll sh → sizeOf sh i ≡ 0 → shareOf sh i ≡ 0
 empty-share sh i p z =
     share-none (capacityAll sh) (weightOf sh) (sh .channels) p i (ap (λ (x : ℕ). ratioOf sh i * x) z ∙ mul-zero (ratioOf sh i))
+
+-- step 7: the channel of an index
+pub channel-passes : (sh : Sheet) (x : ℕ) → 0 < weightAll sh → x < capacityAll sh → Passes (cutOf sh) x 0 (sh .channels) (channelOf sh x)
+unfolding channelOf
+channel-passes sh x p h =
+    first-passes (cutOf sh) x (sh .channels)
+    (omega (arith, cut-first (capacityAll sh) (weightOf sh) (sh .channels) p))
+    (omega (arith, cut-last (capacityAll sh) (weightOf sh) (sh .channels) p))
 
 -- a channel that has bits has weight
 weight-one : (sh : Sheet) → Ranged sh → (n : ℕ) → n < sh .channels → (encodedOf sh n ≡ 0 → ⊥) → 1 ≤ weightOf sh n

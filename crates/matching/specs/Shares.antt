@@ -3,6 +3,7 @@ use mathlib.Core.List.{List}
 use Prim.Native.Nat.{ℕ, _+_, _*_, _-_, _/_}
 use lib.IntN.{ℤ, pos, _-ℤ_}
 use Rattle.laws.specs.Sums.{sumTo}
+use Rattle.laws.specs.Least.{first}
 use Rattle.laws.specs.Tables.{table, upTo}
 use Rattle.sheet.specs.Counts.{mostChannels}
 use Rattle.sheet.specs.Fields.{ratioOf}
@@ -33,6 +34,10 @@ shareOf sh i = shareIn (capacityAll sh) (weightOf sh) (sh .channels) i
 
 abbrev pub changeOf : Sheet → ℕ → ℤ
 changeOf sh i = pos (shareOf sh i) -ℤ pos (sizeOf sh i)
+
+-- step 7: the V_i bits of channels 1 to I stand in order, so index x lies in the channel that is the least with its Z above x
+unfoldable pub channelOf : Sheet → ℕ → ℕ
+channelOf sh x = first (cutOf sh) x (sh .channels) 0
 
 -- Z_0 to Z_I, 0 past them
 unfoldable pub cutsOf : Sheet → List ℕ
