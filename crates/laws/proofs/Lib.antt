@@ -4,3 +4,5 @@ pub mod TestLaws
 pub mod LaidLaws
 pub mod LeastLaws
 pub mod JoinedLaws
+pub mod PartLaws
+pub mod FillingLaws

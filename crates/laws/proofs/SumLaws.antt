@@ -2,7 +2,7 @@
 use mathlib.Core.Path.{_≡_, refl, sym, ap, ap₂, _∙_}
 use mathlib.Core.Bool.{Bool, true, false, true≢false, _||_, or-true}
 use Prim.Native.Nat.{ℕ, zero, suc, _+_, _*_, _≤_, _<_}
-use native.Mathlib.Nat.{suc-mul}
+use native.Mathlib.Nat.{zero-mul, suc-mul}
 use native.Mathlib.Numerals.{add-one}
 use native.Mathlib.Omega.{arith}
 use native.Mathlib.Decide.{ℕ-discrete}
@@ -13,10 +13,22 @@ pub sum-more : (f : ℕ → ℕ) (i : ℕ) {a b : ℕ} → a ≡ sumTo f i → b
 unfolding sumTo
 sum-more f i p q = ap₂ _+_ p q ∙ ap (sumTo f) (sym (add-one i))
 
+-- the first term taken out
+pub sum-shift : (f : ℕ → ℕ) (n : ℕ) → sumTo f (suc n) ≡ f 0 + sumTo (λ i. f (suc i)) n
+unfolding sumTo
+sum-shift f zero = omega arith
+sum-shift f (suc n) = omega (arith, sum-shift f n)
+
 pub sum-same : (f g : ℕ → ℕ) (n : ℕ) → ((i : ℕ) → i < n → f i ≡ g i) → sumTo f n ≡ sumTo g n
 unfolding sumTo
 sum-same f g zero h = refl
 sum-same f g (suc n) h = ap₂ _+_ (sum-same f g n (λ i l. h i (omega arith))) (h n (omega arith))
+
+-- equal terms
+pub sum-const : (f : ℕ → ℕ) (b n : ℕ) → ((i : ℕ) → i < n → f i ≡ b) → sumTo f n ≡ n * b
+unfolding sumTo
+sum-const f b zero h = sym (zero-mul b)
+sum-const f b (suc n) h = omega (arith, sum-const f b n (λ i l. h i (omega arith)), h n (omega arith), suc-mul n b)
 
 pub sum-most : (f : ℕ → ℕ) (b n : ℕ) → ((i : ℕ) → i < n → f i ≤ b) → sumTo f n ≤ n * b
 unfolding sumTo

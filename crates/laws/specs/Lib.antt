@@ -3,3 +3,4 @@ pub mod Tables
 pub mod Laid
 pub mod Least
 pub mod Joined
+pub mod Filling

@@ -1,0 +1,180 @@
+-- Laws of step 8 and of its undoing.
+use mathlib.Core.Path.{_≡_, refl, sym, ap, ap₂, _∙_}
+use mathlib.Core.Bool.{Bool}
+use mathlib.Core.List.{List, map}
+use Prim.Native.Nat.{ℕ, zero, suc, _+_, _*_, _-_, _/_, _%_, _≤_, _<_}
+use native.Mathlib.Omega.{arith}
+use lib.Dec.{eqb, eqb→eq, lit<}
+use lib.ListN.{length, getD}
+use lib.Seq.{ext-getD}
+use Rattle.laws.specs.Sums.{sumTo}
+use Rattle.laws.specs.Tables.{table}
+use Rattle.laws.specs.Least.{Passes}
+use Rattle.laws.proofs.LeastLaws.{first-passes}
+use Rattle.laws.proofs.TableLaws.{table-length, table-get}
+use Rattle.laws.proofs.TestLaws.{both, below, below-at}
+use Rattle.orders.specs.Orders.{order, turnOf}
+use Rattle.orders.proofs.OrderLaws.{turn-order, order-turn, length-order}
+use Rattle.interleaving.specs.Columns.{height, columns}
+use Rattle.interleaving.specs.Second.{secondInterleaved, readBefore, placeOf, turnAt, sourceOf, secondUndone}
+use Rattle.interleaving.proofs.ColumnLaws.{Among, columns-length, columns-at, columns-map}
+
+order-among : Among 30 order
+order-among t l = order-turn t (omega (arith, length-order)) .0
+
+-- one row more is one element more in each column
+read-row : (K t : ℕ) → t ≤ 30 → readBefore (30 + K) t ≡ t + readBefore K t
+unfolding sumTo
+read-row K zero h = refl
+read-row K (suc t) h = omega (arith, read-row K t (omega arith), order-turn t (omega arith) .0)
+
+short-row : ℕ → Bool
+short-row s = eqb (readBefore s 30) s
+
+read-short : (s : ℕ) → s < 30 → readBefore s 30 ≡ s
+unfolding short-row sumTo order below both
+read-short s h = eqb→eq (readBefore s 30) s (below-at short-row 30 tt s h)
+
+read-rows : (q s : ℕ) → s < 30 → readBefore (30 * q + s) 30 ≡ 30 * q + s
+read-rows zero s h = let e : 30 * 0 + s ≡ s = omega arith in rw e (read-short s h)
+read-rows (suc q) s h =
+    let e : 30 * suc q + s ≡ 30 + (30 * q + s) = omega arith in
+    rw e (read-row (30 * q + s) 30 (omega arith) ∙ ap (λ (n : ℕ). 30 + n) (read-rows q s h))
+
+-- all columns are read in 30 turns
+pub read-all : (K : ℕ) → readBefore K 30 ≡ K
+read-all K =
+    let e : K ≡ 30 * (K / 30) + K % 30 = omega arith in
+    ap (λ (n : ℕ). readBefore n 30) e ∙ read-rows (K / 30) (K % 30) (omega arith) ∙ sym e
+
+pub read-suc : (K t : ℕ) → readBefore K (suc t) ≡ readBefore K t + height 30 K (getD order t 0)
+unfolding sumTo
+read-suc K t = refl
+
+read-most : (K t n : ℕ) → readBefore K t ≤ readBefore K (t + n)
+read-most K t zero = let q : t + 0 ≡ t = omega arith in rw q (omega arith)
+read-most K t (suc n) =
+    let q : t + suc n ≡ suc (t + n) = omega arith in
+    rw q (omega (arith, read-suc K (t + n), read-most K t n))
+
+-- ---- where an element goes, and where it comes from
+
+-- row r of the column of turn t
+pub place-row : (K t r : ℕ) → t < 30 → placeOf K (30 * r + getD order t 0) ≡ r + readBefore K t
+unfolding placeOf
+place-row K t r h =
+    let o = order-turn t h in
+    let a : (30 * r + getD order t 0) / 30 ≡ r = omega (arith, o .0) in
+    let b : (30 * r + getD order t 0) % 30 ≡ getD order t 0 = omega (arith, o .0) in
+    ap₂ (λ (x y : ℕ). x + readBefore K (turnOf y)) a b ∙ ap (λ (y : ℕ). r + readBefore K y) (o .1)
+
+pub place-below : (K k : ℕ) → k < K → placeOf K k < K
+unfolding placeOf
+place-below K k h =
+    let s = turn-order (k % 30) (omega arith) in
+    let t = turnOf (k % 30) in
+    let q : suc t + (29 - t) ≡ 30 = omega (arith, s .0) in
+    let m : readBefore K (suc t) ≤ readBefore K 30 = rw q at (read-most K (suc t) (29 - t)) in
+    omega (arith, s .1, read-suc K t, m, read-all K)
+
+pub turn-passes : (K j : ℕ) → j < K → Passes (readBefore K) j 0 30 (turnAt K j)
+unfolding turnAt
+turn-passes K j h = first-passes (readBefore K) j 30 (unfold sumTo in omega arith) (rw (read-all K) h)
+
+pub source-below : (K j : ℕ) → j < K → sourceOf K j < K
+unfolding sourceOf
+source-below K j h =
+    let p = turn-passes K j h in
+    omega (arith, p .low, p .high, read-suc K (turnAt K j), order-turn (turnAt K j) (p .below) .0)
+
+pub place-source : (K j : ℕ) → j < K → placeOf K (sourceOf K j) ≡ j
+unfolding sourceOf
+place-source K j h =
+    let p = turn-passes K j h in
+    place-row K (turnAt K j) (j - readBefore K (turnAt K j)) (p .below) ∙ omega (arith, p .low)
+
+module _ {A : Type 0} where
+  pub second-length : (xs : List A) → length (secondInterleaved xs) ≡ length xs
+  unfolding secondInterleaved
+  second-length xs =
+      columns-length 30 (lit< tt) order xs order-among
+      ∙ ap (readBefore (length xs)) length-order
+      ∙ read-all (length xs)
+
+  -- element k, where it goes
+  pub second-place : (xs : List A) (k : ℕ) (z : A) → k < length xs → getD (secondInterleaved xs) (placeOf (length xs) k) z ≡ getD xs k z
+  unfolding secondInterleaved placeOf
+  second-place xs k z h =
+      let s = turn-order (k % 30) (omega arith) in
+      let t = turnOf (k % 30) in
+      let a : k / 30 + readBefore (length xs) t ≡ readBefore (length xs) t + k / 30 = omega arith in
+      let b : k / 30 * 30 + getD order t 0 ≡ k = omega (arith, s .1) in
+      ap (λ (j : ℕ). getD (columns 30 order xs) j z) a
+      ∙ columns-at 30 (lit< tt) order xs order-among t (k / 30) z (omega (arith, length-order, s .0)) (omega (arith, s .1))
+      ∙ ap (λ (j : ℕ). getD xs j z) b
+
+  -- what stands at index j, from where it comes
+  pub second-at : (xs : List A) (j : ℕ) (z : A) → j < length xs → getD (secondInterleaved xs) j z ≡ getD xs (sourceOf (length xs) j) z
+  second-at xs j z h =
+      ap (λ (i : ℕ). getD (secondInterleaved xs) i z) (sym (place-source (length xs) j h))
+      ∙ second-place xs (sourceOf (length xs) j) z (source-below (length xs) j h)
+
+-- the numbers below K carry their own places
+pub source-place : (K k : ℕ) → k < K → sourceOf K (placeOf K k) ≡ k
+source-place K k h =
+    let xs = table (λ i. i) 0 K in
+    let e : length xs ≡ K = table-length (λ i. i) 0 K in
+    let b = source-below K (placeOf K k) (place-below K k h) in
+    sym (table-get (λ i. i) K (sourceOf K (placeOf K k)) 0 b)
+    ∙ ap (λ (n : ℕ). getD xs (sourceOf n (placeOf K k)) 0) (sym e)
+    ∙ sym (second-at xs (placeOf K k) 0 (omega (arith, e, place-below K k h)))
+    ∙ ap (λ (n : ℕ). getD (secondInterleaved xs) (placeOf n k) 0) (sym e)
+    ∙ second-place xs k 0 (omega (arith, e))
+    ∙ table-get (λ i. i) K k 0 h
+
+-- no two elements go to one place
+pub place-once : (K i j : ℕ) → i < K → j < K → placeOf K i ≡ placeOf K j → i ≡ j
+place-once K i j hi hj e = sym (source-place K i hi) ∙ ap (sourceOf K) e ∙ source-place K j hj
+
+-- ---- undoing, and maps
+
+module _ {A : Type 0} (z : A) where
+  pub undone-length : (ys : List A) → length (secondUndone z ys) ≡ length ys
+  unfolding secondUndone
+  undone-length ys = table-length _ 0 (length ys)
+
+  pub undone-at : (ys : List A) (k : ℕ) (d : A) → k < length ys → getD (secondUndone z ys) k d ≡ getD ys (placeOf (length ys) k) z
+  unfolding secondUndone
+  undone-at ys k d h = table-get (λ k. getD ys (placeOf (length ys) k) z) (length ys) k d h
+
+  pub second-undone : (xs : List A) → secondUndone z (secondInterleaved xs) ≡ xs
+  second-undone xs =
+      let e = second-length xs in
+      ext-getD z _ _ (undone-length (secondInterleaved xs) ∙ e)
+      (λ k l.
+      let b : k < length xs = omega (arith, undone-length (secondInterleaved xs)) in
+      undone-at (secondInterleaved xs) k z (omega arith)
+      ∙ ap (λ (n : ℕ). getD (secondInterleaved xs) (placeOf n k) z) e
+      ∙ second-place xs k z b)
+
+  pub second-redone : (ys : List A) → secondInterleaved (secondUndone z ys) ≡ ys
+  second-redone ys =
+      let e = undone-length ys in
+      ext-getD z _ _ (second-length (secondUndone z ys) ∙ e)
+      (λ j l.
+      let b : j < length ys = omega (arith, second-length (secondUndone z ys)) in
+      second-at (secondUndone z ys) j z (omega arith)
+      ∙ ap (λ (n : ℕ). getD (secondUndone z ys) (sourceOf n j) z) e
+      ∙ undone-at ys (sourceOf (length ys) j) z (source-below (length ys) j b)
+      ∙ ap (λ (i : ℕ). getD ys i z) (place-source (length ys) j b))
+
+module _ {A B : Type 0} (g : A → B) where
+  pub second-map : (xs : List A) → secondInterleaved (map g xs) ≡ map g (secondInterleaved xs)
+  unfolding secondInterleaved
+  second-map xs = columns-map g 30 order xs
+
+  pub undone-map : (y : B) (z : A) (ys : List A) → secondUndone y (map g ys) ≡ map g (secondUndone z ys)
+  undone-map y z ys =
+      ap (λ (l : List A). secondUndone y (map g l)) (sym (second-redone z ys))
+      ∙ ap (secondUndone y) (sym (second-map (secondUndone z ys)))
+      ∙ second-undone y (map g (secondUndone z ys))
