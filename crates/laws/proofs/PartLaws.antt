@@ -4,7 +4,7 @@ use mathlib.Core.List.{List, [], _∷_, _++_, map, flatten}
 use Prim.Native.Nat.{ℕ, zero, suc, _+_, _*_, _<_}
 use native.Mathlib.Nat.{zero-mul, suc-mul}
 use native.Mathlib.Omega.{arith}
-use lib.ListN.{length, getD, take, drop, replicate}
+use lib.ListN.{length, getD, set, take, drop, replicate}
 use lib.Seq.{take-add, take-all, drop-drop}
 use Rattle.laws.specs.Tables.{table}
 
@@ -27,6 +27,12 @@ module _ {A B : Type 0} (g : A → B) where
   unfolding table
   table-map f from zero = refl
   table-map f from (suc n) = ap (λ (l : List B). g (f from) ∷ l) (table-map f (suc from) n)
+
+  -- one element of a list that is mapped
+  pub set-map : (xs : List A) (n : ℕ) (a : A) → set (map g xs) n (g a) ≡ map g (set xs n a)
+  set-map [] n a = refl
+  set-map (x ∷ xs) zero a = refl
+  set-map (x ∷ xs) (suc n) a = ap (λ (l : List B). g x ∷ l) (set-map xs n a)
 
   -- within a list no default counts
   pub map-at : (xs : List A) (i : ℕ) (y : B) (z : A) → i < length xs → getD (map g xs) i y ≡ g (getD xs i z)

@@ -1,13 +1,13 @@
 -- Laws of sums and of "one of them holds".
 use mathlib.Core.Path.{_≡_, refl, sym, ap, ap₂, _∙_}
 use mathlib.Core.Bool.{Bool, true, false, true≢false, _||_, or-true}
-use Prim.Native.Nat.{ℕ, zero, suc, _+_, _*_, _≤_, _<_}
-use native.Mathlib.Nat.{zero-mul, suc-mul}
+use Prim.Native.Nat.{ℕ, zero, suc, _+_, _-_, _*_, _≤_, _<_}
+use native.Mathlib.Nat.{zero-mul, suc-mul, add-zero, add-suc}
 use native.Mathlib.Numerals.{add-one}
 use native.Mathlib.Omega.{arith}
-use native.Mathlib.Decide.{ℕ-discrete}
+use native.Mathlib.Decide.{decLt, ℕ-discrete}
 use lib.Arith.{lt-of-le-ne}
-use Rattle.laws.specs.Sums.{sumTo, anyTo}
+use Rattle.laws.specs.Sums.{sumTo, sumFrom, anyTo}
 
 pub sum-more : (f : ℕ → ℕ) (i : ℕ) {a b : ℕ} → a ≡ sumTo f i → b ≡ f i → a + b ≡ sumTo f (i + 1)
 unfolding sumTo
@@ -24,16 +24,69 @@ unfolding sumTo
 sum-same f g zero h = refl
 sum-same f g (suc n) h = ap₂ _+_ (sum-same f g n (λ i l. h i (omega arith))) (h n (omega arith))
 
+pub sum-most : (f : ℕ → ℕ) (b n : ℕ) → ((i : ℕ) → i < n → f i ≤ b) → sumTo f n ≤ n * b
+unfolding sumTo
+sum-most f b zero h = omega arith
+sum-most f b (suc n) h = omega (arith, sum-most f b n (λ i l. h i (omega arith)), h n (omega arith), suc-mul n b)
+
 -- equal terms
 pub sum-const : (f : ℕ → ℕ) (b n : ℕ) → ((i : ℕ) → i < n → f i ≡ b) → sumTo f n ≡ n * b
 unfolding sumTo
 sum-const f b zero h = sym (zero-mul b)
 sum-const f b (suc n) h = omega (arith, sum-const f b n (λ i l. h i (omega arith)), h n (omega arith), suc-mul n b)
 
-pub sum-most : (f : ℕ → ℕ) (b n : ℕ) → ((i : ℕ) → i < n → f i ≤ b) → sumTo f n ≤ n * b
+pub sum-zeros : (n : ℕ) → sumTo (λ i. 0) n ≡ 0
 unfolding sumTo
-sum-most f b zero h = omega arith
-sum-most f b (suc n) h = omega (arith, sum-most f b n (λ i l. h i (omega arith)), h n (omega arith), suc-mul n b)
+sum-zeros zero = refl
+sum-zeros (suc n) = omega (arith, sum-zeros n)
+
+-- as many as there are, where each is 1
+pub sum-ones : (f : ℕ → ℕ) (n : ℕ) → ((i : ℕ) → i < n → f i ≡ 1) → sumTo f n ≡ n
+unfolding sumTo
+sum-ones f zero h = refl
+sum-ones f (suc n) h = omega (arith, sum-ones f n (λ i l. h i (omega arith)), h n (omega arith))
+
+-- term by term: added, no larger, and where such a sum is smaller or the same
+pub sum-plus : (f g h : ℕ → ℕ) (n : ℕ) → ((i : ℕ) → i < n → f i ≡ g i + h i) → sumTo f n ≡ sumTo g n + sumTo h n
+unfolding sumTo
+sum-plus f g h zero e = refl
+sum-plus f g h (suc n) e = omega (arith, sum-plus f g h n (λ i l. e i (omega arith)), e n (omega arith))
+
+pub sum-le : (f g : ℕ → ℕ) (n : ℕ) → ((i : ℕ) → i < n → f i ≤ g i) → sumTo f n ≤ sumTo g n
+unfolding sumTo
+sum-le f g zero h = omega arith
+sum-le f g (suc n) h = omega (arith, sum-le f g n (λ i l. h i (omega arith)), h n (omega arith))
+
+pub sum-less : (f g : ℕ → ℕ) (n : ℕ) → sumTo f n < sumTo g n → (i : ℕ) × (i < n) × (f i < g i)
+unfolding sumTo
+sum-less f g zero h = absurd (omega arith)
+sum-less f g (suc n) h =
+    elim (decLt (f n) (g n)) [ yes l ↦ (n, omega arith, l) | no m ↦ let t = sum-less f g n (omega arith) in (t .0, omega arith, t .2) ]
+
+pub sum-tight : (f g : ℕ → ℕ) (n : ℕ) → ((i : ℕ) → i < n → f i ≤ g i) → sumTo f n ≡ sumTo g n → (i : ℕ) → i < n → f i ≡ g i
+unfolding sumTo
+sum-tight f g zero h e i l = absurd (omega arith)
+sum-tight f g (suc n) h e i l =
+    let a = h n (omega arith) in
+    let b = sum-le f g n (λ k m. h k (omega arith)) in
+    elim (decLt i n) [
+      | yes m ↦ sum-tight f g n (λ k m. h k (omega arith)) (omega arith) i m
+      | no m ↦ let q : i ≡ n = omega arith in rw q (omega arith)
+    ]
+
+-- a sum in two parts, and in three: before p, at p, past p
+pub sum-join : (f : ℕ → ℕ) (m n : ℕ) → sumTo f (m + n) ≡ sumTo f m + sumFrom f m n
+unfolding sumTo
+sum-join f m zero = rw (add-zero m) (omega arith)
+sum-join f m (suc n) = rw add-suc (omega (arith, sum-join f m n))
+
+pub sum-parts : (f : ℕ → ℕ) (p n : ℕ) → p < n → sumTo f n ≡ sumTo f p + f p + sumFrom f (suc p) (n - suc p)
+unfolding sumTo
+sum-parts f p n h = let e : n ≡ suc p + (n - suc p) = omega arith in ap (sumTo f) e ∙ sum-join f (suc p) (n - suc p)
+
+-- what stands before p and at p is a part of the whole
+pub sum-within : (f : ℕ → ℕ) (p n : ℕ) → p < n → sumTo f p + f p ≤ sumTo f n
+sum-within f p n h = omega (arith, sum-parts f p n h)
 
 pub any-more : (f : ℕ → Bool) (i : ℕ) → anyTo f i ≡ false → f i ≡ false → anyTo f (i + 1) ≡ false
 unfolding anyTo
