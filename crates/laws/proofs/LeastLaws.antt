@@ -2,6 +2,7 @@
 use mathlib.Core.Path.{_≡_}
 use Prim.Native.Nat.{ℕ, zero, suc, _+_, _≤_, _<_}
 use native.Mathlib.Omega.{arith}
+use native.Mathlib.Decide.{decLt}
 use borrow.Author.Tests.{lt-ltb, le-ltb}
 use Rattle.laws.specs.Least.{first, Passes}
 use Rattle.laws.proofs.TestLaws.{split}
@@ -29,3 +30,21 @@ first-from g v (suc n) m lo hi =
 
 pub first-passes : (g : ℕ → ℕ) (v n : ℕ) → g 0 ≤ v → v < g n → Passes g v 0 n (first g v n 0)
 first-passes g v n lo hi = let q : 0 + n ≡ n = omega arith in rw q at (first-from g v n 0 lo (rw q hi))
+
+-- a count that rises step by step
+pub rises : (g : ℕ → ℕ) (n : ℕ) → ((k : ℕ) → k < n → g k ≤ g (suc k)) → (i j : ℕ) → i ≤ j → j ≤ n → g i ≤ g j
+rises g n h i zero l m = let q : i ≡ 0 = omega arith in rw q (omega arith)
+rises g n h i (suc j) l m =
+    split i j
+    (λ le. omega (arith, rises g n h i j le (omega arith), h j m))
+    (λ lt. let q : i ≡ suc j = omega arith in rw q (omega arith))
+
+-- has no other step that passes v
+pub passes-one : (g : ℕ → ℕ) (v n i j : ℕ) → ((k : ℕ) → k < n → g k ≤ g (suc k)) → Passes g v 0 n i → j < n → g j ≤ v → v < g (suc j)
+    → i ≡ j
+passes-one g v n i j up p l lo hi = by (decLt i j) (decLt j i)
+  where
+    by : Dec (i < j) → Dec (j < i) → i ≡ j
+    by (yes a) d = absurd (omega (arith, p .high, rises g n up (suc i) j a (omega arith)))
+    by (no m) (yes a) = absurd (omega (arith, p .least j (omega arith) a))
+    by (no m) (no a) = omega arith

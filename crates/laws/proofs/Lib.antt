@@ -6,3 +6,4 @@ pub mod LeastLaws
 pub mod JoinedLaws
 pub mod PartLaws
 pub mod FillingLaws
+pub mod TodoLaws

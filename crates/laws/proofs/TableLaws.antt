@@ -1,7 +1,7 @@
 -- Laws of a table of n values, and of the one that is filled up to a place.
 use mathlib.Core.Path.{_≡_, refl, sym, ap, _∙_, subst}
 use mathlib.Core.Bool.{Bool, cond}
-use mathlib.Core.List.{List}
+use mathlib.Core.List.{List, _∷_}
 use Prim.Native.Nat.{ℕ, zero, suc, _+_, _≤_, _<_}
 use native.Mathlib.Nat.{add-zero, zero-add, add-suc, suc-add, le-of-suc-le-suc}
 use native.Mathlib.Omega.{arith}
@@ -26,6 +26,11 @@ module _ {A : Type 0} where
 
   pub table-get : (f : ℕ → A) (n i : ℕ) (d : A) → i < n → getD (table f 0 n) i d ≡ f i
   table-get f n i d h = table-from f 0 n i d h ∙ ap f (zero-add i)
+
+  pub table-shift : (f : ℕ → A) (from n : ℕ) → table f (suc from) n ≡ table (λ i. f (suc i)) from n
+  unfolding table
+  table-shift f from zero = refl
+  table-shift f from (suc n) = ap (λ (l : List A). f (suc from) ∷ l) (table-shift f (suc from) n)
 
   -- a list is the table of its entries
   pub tabled : (g : ℕ → A) (l : List A) (m : ℕ) (d : A) → length l ≡ m → ((j : ℕ) → j < m → getD l j d ≡ g j) → l ≡ table g 0 m

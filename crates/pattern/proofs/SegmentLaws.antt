@@ -1,0 +1,57 @@
+-- A segment whose d is given by its sign and its magnitude: its sizes, its start, and the walk that it is.
+use mathlib.Core.Path.{_≡_, refl, _∙_}
+use mathlib.Core.Bool.{Bool, true, false, false≢true}
+use mathlib.Core.List.{List, map-id}
+use Prim.Native.Nat.{ℕ, zero, suc, _+_, _*_, _≤_, _<_}
+use native.Mathlib.Omega.{arith}
+use lib.IntN.{pos, negsuc, natAbs}
+use Rattle.matching.specs.Signed.{signedBy}
+use Rattle.pattern.specs.Pattern.{walked, sharedFrom, matched, shared, asIs, Stands, Segment}
+use Rattle.pattern.proofs.MatchedLaws.{differs, started, matched-same}
+
+pub magnitude : (less : Bool) (m : ℕ) → natAbs (signedBy less m) ≡ m
+magnitude false m = refl
+magnitude true zero = refl
+magnitude true (suc a) = refl
+
+-- how many bits come out
+pub sized-same : (less : Bool) (m N W e : ℕ) → Segment less m N W e → m ≡ 0 → W ≡ N
+sized-same false m N W e s z = omega (arith, differs (pos m) N W e (s .rates))
+sized-same true zero N W e s z = omega (arith, differs (pos zero) N W e (s .rates))
+sized-same true (suc a) N W e s z = absurd (omega arith)
+
+pub sized-less : (m N W e : ℕ) → Segment true m N W e → N ≡ W + m
+sized-less zero N W e s = omega (arith, differs (pos zero) N W e (s .rates))
+sized-less (suc a) N W e s = differs (negsuc a) N W e (s .rates)
+
+-- the start
+pub begins : (less : Bool) (m N W e : ℕ) → Segment less m N W e → 0 < m → (0 < N) × (0 < e) × (e ≤ 2 * N)
+begins less m N W e s h = started (signedBy less m) N W e (s .rates) (omega (arith, magnitude less m))
+
+pub stands : (less : Bool) (m N W e : ℕ) → Segment less m N W e → 0 < m → Stands less (2 * N) (2 * m) e
+stands less m N W e s h = let b = begins less m N W e s h in record { above = b .1; top = b .2; most = few less s }
+  where
+    few : (less : Bool) → Segment less m N W e → less ≡ true → 2 * m ≤ 2 * N
+    few false s q = absurd (false≢true q)
+    few true s q = omega (arith, sized-less m N W e s)
+
+-- the walk itself
+pub matched-by : {A B : Type 0} (f : A → ℕ → B) (less : Bool) (m N e : ℕ) (xs : List A) → 0 < m
+    → matched f (signedBy less m) N e xs ≡ walked f less (2 * N) (2 * m) e xs
+unfolding matched
+matched-by f false m N e xs h = refl
+matched-by f true zero N e xs h = absurd (omega arith)
+matched-by f true (suc a) N e xs h = refl
+
+pub shared-by : {A : Type 0} (less : Bool) (m N e : ℕ) (vs : List A) → 0 < m
+    → shared (signedBy less m) N e vs ≡ sharedFrom less (2 * N) (2 * m) e N vs
+unfolding shared
+shared-by false m N e vs h = refl
+shared-by true zero N e vs h = absurd (omega arith)
+shared-by true (suc a) N e vs h = refl
+
+-- d = 0: the bits as they are
+pub matched-none : {A : Type 0} (less : Bool) (m N e : ℕ) (xs : List A) → m ≡ 0 → matched asIs (signedBy less m) N e xs ≡ xs
+matched-none false zero N e xs z = matched-same asIs N e xs ∙ map-id xs
+matched-none true zero N e xs z = matched-same asIs N e xs ∙ map-id xs
+matched-none less (suc a) N e xs z = absurd (omega arith)
