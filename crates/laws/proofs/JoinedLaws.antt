@@ -5,8 +5,8 @@ use Prim.Native.Nat.{ℕ, zero, suc, _+_, _-_, _≤_, _<_}
 use native.Mathlib.Omega.{arith}
 use native.Mathlib.Decide.{ℕ-discrete}
 use lib.Arith.{lt-of-le-ne}
-use lib.ListN.{length, getD, length-append, List·getD-append}
-use lib.Seq.{getD-append-add}
+use lib.ListN.{length, getD, take, drop, length-append, length-drop, List·getD-append}
+use lib.Seq.{getD-append-add, take-length, take-append-le, drop-at, drop-append-le}
 use Rattle.laws.specs.Joined.{joined}
 
 -- each list begins where the one before it ends
@@ -53,6 +53,29 @@ module _ {A : Type 0} (g : ℕ → List A) (L : ℕ → ℕ) where
       side (no e) k =
           let l′ : i < n = lt-of-le-ne (omega arith) e in
           List·getD-append (joined g n) (g n) d (L i + v) (omega (arith, long, ends-before n i (fewer g L n h) l′)) ∙ k l′ m
+
+  -- list i cut out again
+  pub joined-part : (n i : ℕ) → Begins g L n → i < n → take (length (g i)) (drop (L i) (joined g n)) ≡ g i
+  unfolding joined
+  joined-part zero i h l = absurd (omega arith)
+  joined-part (suc n) i h l = side (ℕ-discrete i n) (joined-part n i (fewer g L n h))
+    where
+      long : length (joined g n) ≡ L n
+      long = length-joined n (fewer g L n h)
+
+      side : Dec (i ≡ n) → (i < n → take (length (g i)) (drop (L i) (joined g n)) ≡ g i)
+          → take (length (g i)) (drop (L i) (joined g n ++ g n)) ≡ g i
+      side (yes e) k =
+          ap (λ (x : ℕ). take (length (g x)) (drop (L x) (joined g n ++ g n))) e
+          ∙ ap (take (length (g n))) (drop-at (joined g n) (g n) (L n) long)
+          ∙ take-length (g n)
+          ∙ ap g (sym e)
+      side (no e) k =
+          let l′ : i < n = lt-of-le-ne (omega arith) e in
+          let b = ends-before n i (fewer g L n h) l′ in
+          ap (take (length (g i))) (drop-append-le (L i) (joined g n) (g n) (omega (arith, long)))
+          ∙ take-append-le (length (g i)) (drop (L i) (joined g n)) (g n) (omega (arith, long, length-drop (L i) (joined g n)))
+          ∙ k l′
 
 -- a map of all is all mapped
 pub map-append : {A B : Type 0} (f : A → B) (xs ys : List A) → map f (xs ++ ys) ≡ map f xs ++ map f ys

@@ -1,9 +1,10 @@
 -- Laws of parts laid one after the other.
 use mathlib.Core.Path.{_≡_, refl, sym, ap, ap₂, _∙_}
-use mathlib.Core.List.{List, [], _++_, append-nil}
-use Prim.Native.Nat.{ℕ, _+_, _≤_}
+use mathlib.Core.List.{List, [], _++_, append-nil, append-assoc}
+use Prim.Native.Nat.{ℕ, _+_, _-_, _≤_}
 use native.Mathlib.Omega.{arith}
-use lib.ListN.{length, drop, length-append, length-drop}
+use borrow.Rule.Slice.PartMut.{putMid, post-is}
+use lib.ListN.{length, take, drop, length-append, length-drop}
 use lib.Seq.{paste, take-at, take-length, drop-append-add, drop-drop, drop-length}
 use Rattle.laws.specs.Laid.{Laid}
 
@@ -26,6 +27,27 @@ module _ {A : Type 0} where
           end = e ∙ ap (λ (x : ℕ). x + length t) (h .end) ∙ sym (length-append l t);
           text = p ∙ pasted ∙ ap (λ (x : ℕ). (l ++ t) ++ drop x o) (sym e);
         }
+
+  -- a part of the list, from its end on, was lent and came back as y
+  pub laid-part : (o out : List A) (at : ℕ) (l y : List A) (e : ℕ) → Laid o out at l → at ≤ e → length y ≡ e - at
+      → Laid o (putMid at (e - at) out y) e (l ++ y)
+  laid-part o out at l y e h b n =
+      let q : length l + (e - at) ≡ e = omega (arith, h .end) in
+      let s : at + (e - at) ≡ e = omega arith in
+      let tail : drop e out ≡ drop e o =
+      ap (drop e) (h .text)
+      ∙ ap (λ (x : ℕ). drop x (l ++ drop at o)) (sym q)
+      ∙ drop-append-add l (drop at o) (e - at)
+      ∙ drop-drop (e - at) at o
+      ∙ ap (λ (x : ℕ). drop x o) s
+      in
+      record {
+        end = omega (arith, length-append l y, h .end);
+        text =
+            ap (λ (x : List A). take at out ++ (y ++ x)) (post-is at e out b ∙ tail)
+            ∙ ap (λ (x : List A). x ++ (y ++ drop e o)) (ap (take at) (h .text) ∙ take-at l (drop at o) at (sym (h .end)))
+            ∙ sym (append-assoc l y (drop e o));
+      }
 
   pub laid-long : (o out : List A) (at : ℕ) (l : List A) → Laid o out at l → at ≤ length o → length out ≡ length o
   laid-long o out at l h b = ap length (h .text) ∙ length-append l (drop at o) ∙ omega (arith, length-drop at o, h .end)

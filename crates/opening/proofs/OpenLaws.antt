@@ -15,7 +15,7 @@ use Rattle.sheet.specs.Numbers.{readNumber, readAnswer}
 use Rattle.sheet.specs.Range.{Accepted}
 use Rattle.sheet.specs.declared.Sheet.{Sheet}
 use Rattle.sheet.specs.declared.SheetAnswer.{SheetAnswer}
-use Rattle.sheet.proofs.FieldLaws.{ranged-in}
+use Rattle.sheet.proofs.FieldLaws.{ranged-in, caps-whole}
 use Rattle.sheet.proofs.NumberLaws.{loads-zero, readable, number-read, fields-read}
 use Rattle.matching.specs.Shares.{weightOf, weightAll, cutOf}
 use Rattle.matching.proofs.ShareLaws.{weight-heard, cut-up, cuts-at}
@@ -43,7 +43,7 @@ pub weighs : (sh : Sheet) → Accepted sh → 0 < weightAll sh
 weighs sh a = weight-heard sh (a .ranged) (loads-zero sh (a .loads) .heard)
 
 pub accepted-in : (s : List ℕ) → readNumber s ≡ 0 → Accepted (sheetOf s)
-accepted-in s z = record { ranged = ranged-in s; loads = readable s z .loads }
+accepted-in s z = record { ranged = ranged-in s; loads = readable s z .loads; whole = caps-whole s }
 
 -- what stands in an opened sheet
 module _ (o : Opened) (h : Opens o) (i : ℕ) (l : i < o .fields .channels) where

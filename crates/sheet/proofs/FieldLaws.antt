@@ -3,7 +3,8 @@ use mathlib.Core.Path.{_≡_, refl, sym, _∙_, subst}
 use mathlib.Core.List.{List}
 use Prim.Native.Nat.{ℕ, _+_, _*_, _≤_, _<_}
 use native.Mathlib.Omega.{arith}
-use Rattle.laws.proofs.TableLaws.{filled-at}
+use lib.ListN.{length}
+use Rattle.laws.proofs.TableLaws.{table-length, filled-at}
 use Rattle.bits.specs.Bits.{bitsAt}
 use Rattle.bits.proofs.BitLaws.{bits-lt}
 use Rattle.sheet.specs.Counts.{mostChannels, mostSlots, mostCodes, mostCapacities}
@@ -62,6 +63,10 @@ module _ (s : List ℕ) where
       let b : p < mostCodes = omega (arith, phchs-most s (startIn s) t) in
       filled-at (capacityIn s (startIn s)) (mostCodes * slotsIn s) mostCapacities (mostCodes * t + p) (omega (arith, slots-most s)) (omega arith)
       ∙ sym (capacity-in s (startIn s) t p l)
+
+  pub caps-whole : length (sheetOf s .caps) ≡ mostCapacities
+  unfolding sheetOf
+  caps-whole = table-length _ 0 mostCapacities
 
   pub ranged-in : Ranged (sheetOf s)
   ranged-in =

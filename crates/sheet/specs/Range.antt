@@ -1,8 +1,9 @@
 -- What the code below the public calls may count on.
 use mathlib.Core.Path.{_≡_}
 use Prim.Native.Nat.{ℕ, _≤_, _<_}
+use lib.ListN.{length}
 use Rattle.counters.specs.Lines.{firstOf}
-use Rattle.sheet.specs.Counts.{mostChannels, mostSlots, mostCodes, mostTti, mostEncoded, mostRatio, mostCapacity}
+use Rattle.sheet.specs.Counts.{mostChannels, mostSlots, mostCodes, mostCapacities, mostTti, mostEncoded, mostRatio, mostCapacity}
 use Rattle.sheet.specs.Fields.{ttiOf, encodedOf, ratioOf, phchsOf, capacityOf}
 use Rattle.sheet.specs.Numbers.{loadLines}
 use Rattle.sheet.specs.declared.Sheet.{Sheet}
@@ -21,7 +22,8 @@ pub record Ranged (sh : Sheet) : Type 0 where
   pub phch16 : (t : ℕ) → t < sh .slots → phchsOf sh t ≤ mostCodes
   pub caps : (t p : ℕ) → t < sh .slots → p < phchsOf sh t → capacityOf sh t p ≤ mostCapacity
 
--- and no line holds of the fields: they are those of an accepted sheet
+-- and no line holds of the fields: they are those of an accepted sheet; the capacities fill their array
 pub record Accepted (sh : Sheet) : Type 0 where
   pub ranged : Ranged sh
   pub loads : firstOf (loadLines sh) ≡ 0
+  pub whole : length (sh .caps) ≡ mostCapacities

@@ -1,0 +1,2 @@
+// A frame: steps 1 to 9, one after the other.
+pub mod spreading;

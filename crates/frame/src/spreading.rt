@@ -1,0 +1,66 @@
+// Steps 8 and 9: the multiplexed bits interleaved, and mapped slot after slot.
+ghost use mathlib.Core.Path.{_≡_};
+ghost use lib.ListN.{length};
+ghost use Rattle.sheet.specs.Sizes.{capacityAll};
+ghost use Rattle.sheet.specs.Range.{Accepted};
+ghost use Rattle.frame.specs.Frame.{interleavedSlots, interleavedBits, mappedSlots, spread};
+use sheet::Sheet;
+use sheet::count;
+use sheet::counts::CODES;
+use sheet::sizes::slot_capacity;
+
+// Mode 1: each slot's part interleaved by itself.
+fn interleave_slots(bits: &[u8], fields: Sheet, out: &mut [u8])
+    requires { ⌜ Accepted fields × (length (now bits) ≡ capacityAll fields) × (length (now out) ≡ capacityAll fields) ⌝ }
+    ensures { λ _. ⌜ now (out .exit) ≡ interleavedSlots fields (now (bits .entry)) ⌝ }
+{
+    let n = count(fields.slots);
+    let mut t: usize = 0;
+    let mut a: usize = 0;
+    while t < n {
+        let e = a + slot_capacity(fields, t) as usize;
+        interleaving::second::interleave(&bits[a..e], &mut out[a..e]);
+        a = e;
+        t += 1;
+    }
+}
+
+// Step 9: slot after slot, of bits that are interleaved already.
+fn map_slots(bits: &[u8], fields: Sheet, out: &mut [u8])
+    requires { ⌜ Accepted fields × (length (now bits) ≡ capacityAll fields) × (length (now out) ≡ capacityAll fields) ⌝ }
+    ensures { λ _. ⌜ now (out .exit) ≡ mappedSlots fields (now (bits .entry)) ⌝ }
+{
+    let caps = fields.caps;
+    let n = count(fields.slots);
+    let mut t: usize = 0;
+    let mut a: usize = 0;
+    while t < n {
+        let e = a + slot_capacity(fields, t) as usize;
+        let from = CODES * t;
+        let to = from + count(fields.phchs[t]);
+        mapping::map_slot(&bits[a..e], &caps[from..to], &mut out[a..e]);
+        a = e;
+        t += 1;
+    }
+}
+
+// Step 8, by the mode.
+fn interleave_bits(bits: &[u8], fields: Sheet, out: &mut [u8])
+    requires { ⌜ Accepted fields × (length (now bits) ≡ capacityAll fields) × (length (now out) ≡ capacityAll fields) ⌝ }
+    ensures { λ _. ⌜ now (out .exit) ≡ interleavedBits fields (now (bits .entry)) ⌝ }
+{
+    if fields.mode == 0 {
+        interleaving::second::interleave(bits, out);
+    } else {
+        interleave_slots(bits, fields, out);
+    }
+}
+
+// Steps 8 and 9: the frame of multiplexed bits. The room is for the interleaved ones.
+pub fn spread_bits(bits: &[u8], fields: Sheet, room: &mut [u8], out: &mut [u8])
+    requires { ⌜ Accepted fields × (length (now bits) ≡ capacityAll fields) × (length (now room) ≡ capacityAll fields) × (length (now out) ≡ capacityAll fields) ⌝ }
+    ensures { λ _. ⌜ now (out .exit) ≡ spread fields (now (bits .entry)) ⌝ }
+{
+    interleave_bits(bits, fields, room);
+    map_slots(room, fields, out);
+}
