@@ -13,7 +13,7 @@ use Rattle.laws.specs.Sums.{sumTo}
 use Rattle.laws.proofs.SumLaws.{sum-same, sum-within}
 use Rattle.laws.proofs.PartLaws.{take-map, drop-map}
 use Rattle.laws.proofs.JoinedLaws.{Begins, length-joined, map-joined, joined-same}
-use Rattle.sheet.specs.Counts.{mostCodes, mostCapacities}
+use Rattle.sheet.specs.Counts.{mostCodes}
 use Rattle.sheet.specs.Fields.{ttiOf, phchsOf, capacityOf}
 use Rattle.sheet.specs.Sizes.{framesOf, sizeOf, equalisedOf, slotCapacity, capacityAll}
 use Rattle.sheet.specs.Range.{Accepted}
@@ -63,9 +63,13 @@ module _ (sh : Sheet) (ok : Accepted sh) where
   pub turn-inside : (frame i : ℕ) → i < sh .channels → frame % framesOf sh i < framesOf sh i
   turn-inside frame i l = mod-lt frame (frames-bounds (ttiOf sh i) (ok .ranged .tti i l) .0)
 
+-- the segment that a channel has for a frame
+abbrev pub partOf : {A : Type 0} → Sheet → ℕ → ℕ → List A → List A
+partOf sh frame i t = segmentOf (ttiOf sh i) (frame % framesOf sh i) (sizeOf sh i) t
+
 module _ {A B : Type 0} (f : A → ℕ → B) (sh : Sheet) (ok : Accepted sh) (frame i : ℕ) (t : List A) where
   abbrev part : List A
-  part = segmentOf (ttiOf sh i) (frame % framesOf sh i) (sizeOf sh i) t
+  part = partOf sh frame i t
 
   -- step 6 of the segment, over natural numbers
   pub sent-matched : sentOf f sh frame i t ≡ matched f (changeOf sh i) (sizeOf sh i) (startAt sh frame i) part
@@ -128,10 +132,10 @@ pub caps-at : (sh : Sheet) (t p : ℕ) → p < phchsOf sh t → getD (capsOf sh 
 unfolding capsOf
 caps-at sh t p h = getD-take (phchsOf sh t) (drop (mostCodes * t) (sh .caps)) p 0 h ∙ getD-drop (mostCodes * t) (sh .caps) p 0
 
-module _ (sh : Sheet) (ok : Accepted sh) (long : length (sh .caps) ≡ mostCapacities) (t : ℕ) (l : t < sh .slots) where
+module _ (sh : Sheet) (ok : Accepted sh) (t : ℕ) (l : t < sh .slots) where
   pub caps-length : length (capsOf sh t) ≡ phchsOf sh t
   unfolding capsOf
-  caps-length = rw (length-take, length-drop, long) (omega (arith, ok .ranged .phch16 t l, ok .ranged .fifteen))
+  caps-length = rw (length-take, length-drop, ok .whole) (omega (arith, ok .ranged .phch16 t l, ok .ranged .fifteen))
 
   pub caps-size : slotSize (capsOf sh t) ≡ slotCapacity sh t
   caps-size = ap (sumTo (at (capsOf sh t))) caps-length ∙ sum-same (at (capsOf sh t)) (capacityOf sh t) (phchsOf sh t) (caps-at sh t)
@@ -141,10 +145,10 @@ module _ (sh : Sheet) (ok : Accepted sh) (long : length (sh .caps) ≡ mostCapac
 pub slot-room : (sh : Sheet) (t : ℕ) → t < sh .slots → slotStart sh t + slotCapacity sh t ≤ capacityAll sh
 slot-room sh t l = sum-within (slotCapacity sh) t (sh .slots) l
 
-module _ {A : Type 0} (sh : Sheet) (xs : List A) (full : length xs ≡ capacityAll sh) where
-  pub length-slot-part : (t : ℕ) → t < sh .slots → length (slotPart sh t xs) ≡ slotCapacity sh t
-  unfolding slotPart
-  length-slot-part t l = rw (length-take, length-drop, full) (omega (arith, slot-room sh t l))
+pub length-slot-part : {A : Type 0} (sh : Sheet) (xs : List A) → length xs ≡ capacityAll sh → (t : ℕ) → t < sh .slots
+    → length (slotPart sh t xs) ≡ slotCapacity sh t
+unfolding slotPart
+length-slot-part sh xs full t l = rw (length-take, length-drop, full) (omega (arith, slot-room sh t l))
 
 module _ {A : Type 0} (sh : Sheet) (xs : List A) (full : length xs ≡ capacityAll sh) where
   pub length-slot-bits : (t : ℕ) → t < sh .slots → length (slotBits sh xs t) ≡ slotCapacity sh t
@@ -206,7 +210,7 @@ module _ {A B C : Type 0} (f : A → ℕ → B) (h : B → C) (sh : Sheet) (ok :
   sent-map : (i : ℕ) → sentOf mapped-sent sh frame i (ts i) ≡ map h (sentOf f sh frame i (ts i))
   sent-map i =
       sent-matched mapped-sent sh ok frame i (ts i)
-      ∙ matched-map f h (changeOf sh i) (sizeOf sh i) (startAt sh frame i) (part f sh ok frame i (ts i))
+      ∙ matched-map f h (changeOf sh i) (sizeOf sh i) (startAt sh frame i) (partOf sh frame i (ts i))
       ∙ ap (map h) (sym (sent-matched f sh ok frame i (ts i)))
 
   pub multiplexed-map : multiplexed (λ a j. h (f a j)) sh frame ts ≡ map h (multiplexed f sh frame ts)
@@ -224,7 +228,7 @@ module _ {A B C : Type 0} (g : A → B) (f : B → ℕ → C) (sh : Sheet) (ok :
   sent-of i =
       sent-matched f sh ok frame i (map g (ts i))
       ∙ ap (matched f (changeOf sh i) (sizeOf sh i) (startAt sh frame i)) (segment-map g (ttiOf sh i) (ts i) (frame % framesOf sh i) (sizeOf sh i))
-      ∙ matched-of g f (changeOf sh i) (sizeOf sh i) (startAt sh frame i) (part (λ a j. f (g a) j) sh ok frame i (ts i))
+      ∙ matched-of g f (changeOf sh i) (sizeOf sh i) (startAt sh frame i) (partOf sh frame i (ts i))
       ∙ sym (sent-matched (λ a j. f (g a) j) sh ok frame i (ts i))
 
   pub frame-of-map : frameOf f sh frame (λ i. map g (ts i)) ≡ frameOf (λ a j. f (g a) j) sh frame ts

@@ -1,2 +1,4 @@
 pub mod FrameLaws
+pub mod ContentLaws
 pub mod SpreadLaws
+pub mod Example

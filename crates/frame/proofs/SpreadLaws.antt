@@ -45,13 +45,13 @@ part-is sh t xs {a} {u} p q =
     let e : a + u - a ≡ slotCapacity sh t = omega arith in
     ap₂ (λ (x y : ℕ). take x (drop y xs)) e p
 
--- one list more
-pub one-more : {A : Type 0} (g : ℕ → List A) (o out : List A) (a u t : ℕ) {y : List A} → Laid o out a (joined g t) → length y ≡ a + u - a → y ≡ g t
-    → Laid o (putMid a (a + u - a) out y) (a + u) (joined g (t + 1))
+-- one list more, written from a up to e
+pub one-more : {A : Type 0} (g : ℕ → List A) (o out : List A) (a e t : ℕ) {y : List A} → Laid o out a (joined g t) → a ≤ e → length y ≡ e - a
+    → y ≡ g t → Laid o (putMid a (e - a) out y) e (joined g (t + 1))
 unfolding joined
-one-more g o out a u t {y} h n e =
-    let q : joined g t ++ y ≡ joined g (t + 1) = ap (λ l. joined g t ++ l) e ∙ ap (joined g) (sym (add-one t)) in
-    rw q at (laid-part o out a (joined g t) y (a + u) h (omega arith) n)
+one-more g o out a e t {y} h b n q =
+    let r : joined g t ++ y ≡ joined g (t + 1) = ap (λ l. joined g t ++ l) q ∙ ap (joined g) (sym (add-one t)) in
+    rw r at (laid-part o out a (joined g t) y e h b n)
 
 -- a slot's capacities and its parts as the code lends them
 module _ (sh : Sheet) (ok : Accepted sh) (t : ℕ) (l : t < sh .slots) {a u p : ℕ} (ea : a ≡ slotStart sh t) (eu : u ≡ slotCapacity sh t)
@@ -63,7 +63,7 @@ module _ (sh : Sheet) (ok : Accepted sh) (t : ℕ) (l : t < sh .slots) {a u p : 
   lent-size : {A : Type 0} (xs : List A) → length xs ≡ capacityAll sh → length (take (a + u - a) (drop a xs)) ≡ slotSize (capsOf sh t)
   lent-size xs n =
       let e : a + u - a ≡ slotCapacity sh t = omega arith in
-      part-length xs a (a + u) (omega arith) (omega (arith, slot-within sh t l ea eu)) ∙ e ∙ sym (caps-size sh ok (ok .whole) t l)
+      part-length xs a (a + u) (omega arith) (omega (arith, slot-within sh t l ea eu)) ∙ e ∙ sym (caps-size sh ok t l)
 
   pub slot-fits : {A B : Type 0} (bits : List A) (out : List B) → length bits ≡ capacityAll sh → length out ≡ capacityAll sh
       → Slot (take (mostCodes * t + p - mostCodes * t) (drop (mostCodes * t) (sh .caps))) (length (take (a + u - a) (drop a bits)))

@@ -14,7 +14,7 @@ use lib.ListN.{getD, set, replicate}
 use Rattle.laws.specs.Sums.{sumTo, anyTo}
 use Rattle.laws.specs.Tables.{table, upTo}
 use Rattle.laws.specs.Least.{Passes}
-use Rattle.laws.proofs.LeastLaws.{first-passes}
+use Rattle.laws.proofs.LeastLaws.{first-passes, rises}
 use Rattle.laws.proofs.SumLaws.{sum-more}
 use Rattle.laws.proofs.TableLaws.{zeros-at, table-set, filled-all, filled-at, upTo-past}
 use Rattle.sheet.specs.Counts.{mostChannels, mostEncoded, mostRatio}
@@ -60,6 +60,16 @@ module _ (d : ℕ) (w : ℕ → ℕ) (n : ℕ) (p : 0 < sumTo w n) where
 pub empty-share : (sh : Sheet) (i : ℕ) → 0 < weightAll sh → sizeOf sh i ≡ 0 → shareOf sh i ≡ 0
 empty-share sh i p z =
     share-none (capacityAll sh) (weightOf sh) (sh .channels) p i (ap (λ (x : ℕ). ratioOf sh i * x) z ∙ mul-zero (ratioOf sh i))
+
+-- no share is over D
+pub share-most : (sh : Sheet) (i : ℕ) → 0 < weightAll sh → i < sh .channels → shareOf sh i ≤ capacityAll sh
+share-most sh i p h =
+    let d = capacityAll sh in
+    let w = weightOf sh in
+    let n = sh .channels in
+    let up : (k : ℕ) → k < n → cutIn d w n k ≤ cutIn d w n (suc k) = λ k l. rw add-one at (cut-up d w n p k) in
+    let b : cutIn d w n (i + 1) ≤ cutIn d w n n = rises (cutIn d w n) n up (i + 1) n (omega arith) (omega arith) in
+    omega (arith, cut-last d w n p)
 
 -- step 7: the channel of an index
 pub channel-passes : (sh : Sheet) (x : ℕ) → 0 < weightAll sh → x < capacityAll sh → Passes (cutOf sh) x 0 (sh .channels) (channelOf sh x)

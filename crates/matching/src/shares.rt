@@ -1,6 +1,6 @@
 // Step 4: the shares of the channels.
 ghost use mathlib.Core.Path.{_≡_};
-ghost use Prim.Native.Nat.{_*_, _≤_, _<_};
+ghost use Prim.Native.Nat.{ℕ, _*_, _≤_, _<_};
 ghost use lib.IntN.{pos, _-ℤ_};
 ghost use Rattle.sheet.specs.Counts.{mostTti, mostEncoded, mostRatio};
 ghost use Rattle.sheet.specs.Sizes.{framesIn, segmentIn};
@@ -20,9 +20,9 @@ pub struct Change {
     pub size: u64,
 }
 
-// d = V - N.
+// d = V - N, no larger than the larger of the two.
 pub fn difference(v: u64, n: u64) -> Change
-    ensures { λ r. ⌜ signedBy (r .less) (r .size) ≡ pos v -ℤ pos n ⌝ }
+    ensures { λ r. ⌜ (signedBy (r .less) (r .size) ≡ pos v -ℤ pos n) × ((b : ℕ) → v ≤ b → n ≤ b → r .size ≤ b) ⌝ }
 {
     if v < n {
         return Change {

@@ -8,17 +8,19 @@ use Rattle.laws.specs.Tables.{table, upTo}
 use Rattle.laws.proofs.TableLaws.{table-set, filled-at}
 use Rattle.counters.specs.Lines.{given}
 use Rattle.counters.proofs.LineLaws.{given-yes, given-no}
-use Rattle.sheet.specs.Counts.{mostChannels}
-use Rattle.sheet.specs.Fields.{sheetOf}
-use Rattle.sheet.specs.Sizes.{sizeOf, capacityAll}
+use borrow.Author.Tests.{ltb-false}
+use Rattle.sheet.specs.Counts.{mostChannels, mostBits, mostEncoded}
+use Rattle.sheet.specs.Fields.{sheetOf, encodedOf}
+use Rattle.sheet.specs.Sizes.{framesOf, sizeOf, capacityAll}
 use Rattle.sheet.specs.Numbers.{readNumber, readAnswer}
 use Rattle.sheet.specs.Range.{Accepted}
 use Rattle.sheet.specs.declared.Sheet.{Sheet}
 use Rattle.sheet.specs.declared.SheetAnswer.{SheetAnswer}
+use Rattle.sheet.proofs.SizeLaws.{size-most}
 use Rattle.sheet.proofs.FieldLaws.{ranged-in, caps-whole}
 use Rattle.sheet.proofs.NumberLaws.{loads-zero, readable, number-read, fields-read}
-use Rattle.matching.specs.Shares.{weightOf, weightAll, cutOf}
-use Rattle.matching.proofs.ShareLaws.{weight-heard, cut-up, cuts-at}
+use Rattle.matching.specs.Shares.{weightOf, weightAll, cutOf, shareOf}
+use Rattle.matching.proofs.ShareLaws.{weight-heard, cut-up, cuts-at, share-most}
 use Rattle.opening.specs.Opened.{sizesOf, openedOf, closed, openAnswer, Opens}
 use Rattle.opening.specs.declared.Opened.{Opened}
 use Rattle.opening.specs.declared.OpenAnswer.{OpenAnswer}
@@ -41,6 +43,16 @@ sizes-at sh i b h = filled-at (sizeOf sh) (sh .channels) mostChannels i (omega a
 -- an accepted sheet's weights are not all 0
 pub weighs : (sh : Sheet) → Accepted sh → 0 < weightAll sh
 weighs sh a = weight-heard sh (a .ranged) (loads-zero sh (a .loads) .heard)
+
+-- no share, and no N, is over 60,000
+pub capacity-most : (sh : Sheet) → Accepted sh → capacityAll sh ≤ mostBits
+capacity-most sh a = ltb-false mostBits (capacityAll sh) (loads-zero sh (a .loads) .capacity)
+
+pub shares-most : (sh : Sheet) → Accepted sh → (i : ℕ) → i < sh .channels → shareOf sh i ≤ mostBits
+shares-most sh a i l = omega (arith, share-most sh i (weighs sh a) l, capacity-most sh a)
+
+pub sizes-most : (sh : Sheet) → Accepted sh → (i : ℕ) → i < sh .channels → sizeOf sh i ≤ mostEncoded
+sizes-most sh a i l = omega (arith, size-most (encodedOf sh i) (framesOf sh i), a .ranged .encoded i l)
 
 pub accepted-in : (s : List ℕ) → readNumber s ≡ 0 → Accepted (sheetOf s)
 accepted-in s z = record { ranged = ranged-in s; loads = readable s z .loads; whole = caps-whole s }

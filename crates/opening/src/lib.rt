@@ -1,6 +1,7 @@
 // A sheet opened once: its fields, and the numbers that every frame needs of them.
 ghost use mathlib.Core.Path.{_≡_};
-ghost use Prim.Native.Nat.{_+_, _<_};
+ghost use Prim.Native.Nat.{_≤_, _<_};
+ghost use Rattle.sheet.specs.Counts.{mostBits};
 ghost use Rattle.sheet.specs.Range.{Ranged, Accepted};
 ghost use Rattle.matching.specs.Shares.{shareOf, changeOf};
 ghost use Rattle.matching.specs.Signed.{signedBy};
@@ -96,7 +97,7 @@ pub fn share(opened: Opened, i: usize) -> u64
 // d = V - N of channel i, counted from 0.
 pub fn change(opened: Opened, i: usize) -> Change
     requires { ⌜ Opens opened × (i < opened .fields .channels) ⌝ }
-    ensures { λ r. ⌜ signedBy (r .less) (r .size) ≡ changeOf (opened .fields) i ⌝ }
+    ensures { λ r. ⌜ (signedBy (r .less) (r .size) ≡ changeOf (opened .fields) i) × (r .size ≤ mostBits) ⌝ }
 {
     let sizes = opened.sizes;
     difference(share(opened, i), sizes[i])

@@ -1,9 +1,10 @@
 -- Laws of the sizes: N, and the longest sheet.
-use mathlib.Core.Path.{_≡_, sym, ap, ap₂, _∙_}
+use mathlib.Core.Path.{_≡_, refl, sym, ap, ap₂, _∙_}
 use mathlib.Core.Bool.{Bool, cond}
 use Prim.Native.Nat.{ℕ, _+_, _-_, _*_, _/_, _%_, _^_, _≤_}
-use native.Mathlib.Nat.{mod-eq-of-lt, one-mul}
+use native.Mathlib.Nat.{mod-eq-of-lt, one-mul, div-le-self}
 use native.Mathlib.Omega.{arith}
+use native.Mathlib.Decide.{ℕ-discrete}
 use borrow.Author.Tests.{eq-eqb, ne-eqb}
 use lib.Pow.{pow-mono}
 use Rattle.laws.proofs.SumLaws.{sum-most}
@@ -24,6 +25,14 @@ size-none e f h = sym (ap (λ (b : Bool). cond b 0 ((e - 1) / f + 1)) (eq-eqb e 
 pub size-some : (e f : ℕ) {x g : ℕ} → x ≡ e → g ≡ f → (e ≡ 0 → ⊥) → (x - 1) / g + 1 ≡ segmentIn e f
 size-some e f {x} {g} p q h =
     ap₂ (λ (a b : ℕ). (a - 1) / b + 1) p q ∙ sym (ap (λ (b : Bool). cond b 0 ((e - 1) / f + 1)) (ne-eqb e 0 h))
+
+-- N is at most E
+pub size-most : (e f : ℕ) → segmentIn e f ≤ e
+size-most e f = side (ℕ-discrete e 0)
+  where
+    side : Dec (e ≡ 0) → segmentIn e f ≤ e
+    side (yes z) = omega (arith, size-none e f z)
+    side (no z) = omega (arith, size-some e f {x = e} {g = f} refl refl z, div-le-self (e - 1) f)
 
 -- the longest sheet
 pub need-most : (sh : Sheet) → Ranged sh → bitsNeeded sh ≤ 3148

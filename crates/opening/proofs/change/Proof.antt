@@ -1,7 +1,9 @@
 use mathlib.Core.Path.{ap₂, _∙_}
 use Prim.Native.Nat.{ℕ}
 use lib.IntN.{pos, _-ℤ_}
-use Rattle.opening.proofs.OpenLaws.{size-is}
+use native.Mathlib.Omega.{arith}
+use Rattle.sheet.specs.Counts.{mostBits}
+use Rattle.opening.proofs.OpenLaws.{size-is, shares-most, sizes-most}
 use borrow.Author.Needs.{needs}
 use Rattle.opening.proofs.change.Statement.{statement}
 use Rattle.opening.proofs.change.Tie as tie
@@ -21,8 +23,13 @@ difference-requires c κs = search needs
 returns : tie.Need-returns
 returns c =
     let s = c .before .before .before in
-    c .difference .ensures
-    ∙ ap₂ (λ (x y : ℕ). pos x -ℤ pos y) (c .before .share .ensures) (size-is (s .args .opened) (s .pre .0) (s .args .i) (s .pre .1))
+    let f = s .args .opened .fields in
+    let e = size-is (s .args .opened) (s .pre .0) (s .args .i) (s .pre .1) in
+    let v = c .before .share .ensures in (
+      c .difference .ensures .0 ∙ ap₂ (λ (x y : ℕ). pos x -ℤ pos y) v e,
+      c .difference .ensures .1 mostBits (omega (arith, v, shares-most f (s .pre .0 .accepted) (s .args .i) (s .pre .1)))
+          (omega (arith, e, sizes-most f (s .pre .0 .accepted) (s .args .i) (s .pre .1))),
+    )
 
 pub change-spec : {M : Type 1} → statement M
 change-spec =

@@ -87,7 +87,7 @@ loop-again c =
     let y = i .interleave .ensures in
     let n = ap length y ∙ second-length _ ∙ part-length (a .bits .now) (l .a) (l .a + u) (omega arith) (omega (arith, end k)) in
     let g = y ∙ ap secondInterleaved (part-is (a .fields) (l .t) (a .bits .now) (l .inv .1) w) in
-    let m = one-more (λ k. secondInterleaved (slotPart (a .fields) k (a .bits .now))) (a .out .now) (l .out) (l .a) u (l .t) (l .inv .3) n g in
+    let m = one-more (λ k. secondInterleaved (slotPart (a .fields) k (a .bits .now))) (a .out .now) (l .out) (l .a) (l .a + u) (l .t) (l .inv .3) (omega arith) n g in
     (omega arith, slot-next (a .fields) (l .t) (l .inv .1) w, laid-long _ _ _ _ m (omega (arith, end k)), m)
 
 same-length : tie.Need-same-length Inv-loop μ-loop

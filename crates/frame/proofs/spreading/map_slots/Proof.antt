@@ -122,7 +122,7 @@ loop-again c =
     slot-made f (s .pre .0) (l .t) (omega arith) (l .inv .1) (k .slot-capacity .ensures .0) (k2 .count2 .ensures .0) b (l .out) (s .pre .1)
     (l .inv .2 ∙ s .pre .2) (m .map-slot .ensures)
     in
-    let d = one-more (λ k. slotOf (capsOf f k) (slotPart f k b) (slotPart f k b)) (s .args .out .now) (l .out) (l .a) u (l .t) (l .inv .3) (y .1) (y .0) in
+    let d = one-more (λ k. slotOf (capsOf f k) (slotPart f k b) (slotPart f k b)) (s .args .out .now) (l .out) (l .a) (l .a + u) (l .t) (l .inv .3) (omega arith) (y .1) (y .0) in
     (omega arith, slot-next f (l .t) (l .inv .1) (k .slot-capacity .ensures .0), laid-long _ _ _ _ d (omega (arith, end k)), d)
 
 same-length : tie.Need-same-length Inv-loop μ-loop

@@ -1,0 +1,158 @@
+-- S6, first half: two places of a frame that have one name are one place.
+use mathlib.Core.Path.{_≡_, sym, ap, _∙_}
+use mathlib.Core.Bool.{Bool, true, false, cond}
+use Prim.Native.Nat.{ℕ, _+_, _*_, _-_, _/_, _%_, _≤_, _<_}
+use native.Mathlib.Decide.{decLt}
+use native.Mathlib.Omega.{arith}
+use lib.Arith.{digits-div}
+use lib.Dec.{eqb}
+use Rattle.laws.proofs.SumLaws.{sum-within}
+use Rattle.sheet.specs.Fields.{ttiOf, phchsOf, capacityOf}
+use Rattle.sheet.specs.Sizes.{framesOf, sizeOf, slotCapacity, capacityAll}
+use Rattle.sheet.specs.Range.{Accepted}
+use Rattle.sheet.specs.declared.Sheet.{Sheet}
+use Rattle.orders.specs.Orders.{columnAt}
+use Rattle.orders.proofs.OrderLaws.{frames-bounds}
+use Rattle.matching.specs.Shares.{cutOf, shareOf, changeOf, channelOf}
+use Rattle.pattern.specs.Closed.{sentBefore, sourceOf, copyOf}
+use Rattle.pattern.proofs.SourceLaws.{source-passes}
+use Rattle.interleaving.specs.Second as Second
+use Rattle.interleaving.proofs.SecondLaws.{source-below, place-source}
+use Rattle.mapping.specs.Mapping.{posOf, filledAs, ones}
+use Rattle.mapping.proofs.PlaceLaws.{filled-in, pos-filled}
+use Rattle.mapping.proofs.TurnLaws.{number-apart}
+use Rattle.frame.specs.Frame.{startAt, slotStart}
+use Rattle.frame.proofs.FrameLaws.{rates, slot-room}
+use Rattle.naming.specs.Name.{Name, slotBitAt, readFrom, multiplexedAt, bitNumber, nameAt, nameOf, Exists}
+use Rattle.naming.proofs.Multiplexed.{lies}
+use Rattle.naming.proofs.Slots.{slot-in, phch-in, number-in, index-below}
+
+-- ---- steps 2 to 7: a name determines the index
+
+rows-apart : (F m n c : ℕ) → 0 < F → m * F + c + 1 ≡ n * F + c + 1 → m ≡ n
+rows-apart F m n c h e =
+    let q : m * F + 0 ≡ n * F + 0 = omega arith in
+    sym (digits-div m {m = F} {r = 0} h) ∙ ap (λ (x : ℕ). x / F) q ∙ digits-div n {m = F} {r = 0} h
+
+-- a bit's number before step 2 determines the segment's bit
+pub bits-apart : (sh : Sheet) → Accepted sh → (frame i m n : ℕ) → i < sh .channels → bitNumber sh frame i m ≡ bitNumber sh frame i n → m ≡ n
+unfolding bitNumber
+bits-apart sh ok frame i m n l e =
+    rows-apart (framesOf sh i) m n (columnAt (ttiOf sh i) (frame % framesOf sh i)) (frames-bounds (ttiOf sh i) (ok .ranged .tti i l) .0) e
+
+-- the segment's bit that stands at index x, and its copy
+abbrev pub segmentBit : Sheet → ℕ → ℕ → ℕ
+segmentBit sh frame x =
+    let i = channelOf sh x in
+    sourceOf (changeOf sh i) (sizeOf sh i) (startAt sh frame i) (x - cutOf sh i)
+
+abbrev pub segmentCopy : Sheet → ℕ → ℕ → ℕ
+segmentCopy sh frame x =
+    let i = channelOf sh x in
+    copyOf (changeOf sh i) (sizeOf sh i) (startAt sh frame i) (x - cutOf sh i)
+
+-- where copy j of bit m of channel i's segment stands
+abbrev pub spotOf : Sheet → ℕ → ℕ → ℕ → ℕ → ℕ
+spotOf sh frame i m j = cutOf sh i + (sentBefore (changeOf sh i) (sizeOf sh i) (startAt sh frame i) m + j)
+
+module _ (sh : Sheet) (ok : Accepted sh) (frame : ℕ) where
+  spot-back : (x : ℕ) → x < capacityAll sh → x ≡ spotOf sh frame (channelOf sh x) (segmentBit sh frame x) (segmentCopy sh frame x)
+  unfolding copyOf
+  spot-back x h =
+      let p = lies sh ok x h in
+      let i = channelOf sh x in
+      let s = source-passes (changeOf sh i) (sizeOf sh i) (shareOf sh i) (startAt sh frame i) (x - cutOf sh i) (rates sh ok frame i) (p .share) in
+      omega (arith, p .from, s .low)
+
+  pub index-apart : (x y : ℕ) → x < capacityAll sh → y < capacityAll sh → nameAt sh frame x ≡ nameAt sh frame y → x ≡ y
+  unfolding nameAt
+  index-apart x y h k e =
+      let c : channelOf sh x ≡ channelOf sh y = omega (arith, ap (λ (n : Name). n .channel) e) in
+      let b : bitNumber sh frame (channelOf sh x) (segmentBit sh frame x) ≡ bitNumber sh frame (channelOf sh y) (segmentBit sh frame y) =
+      omega (arith, ap (λ (n : Name). n .bit) e) in
+      let m : segmentBit sh frame x ≡ segmentBit sh frame y =
+      bits-apart sh ok frame (channelOf sh x) (segmentBit sh frame x) (segmentBit sh frame y) (lies sh ok x h .channel)
+      (b ∙ ap (λ (i : ℕ). bitNumber sh frame i (segmentBit sh frame y)) (sym c)) in
+      let j : segmentCopy sh frame x ≡ segmentCopy sh frame y = ap (λ (n : Name). n .copy) e in
+      spot-back x h
+      ∙ ap (λ (n : ℕ). spotOf sh frame n (segmentBit sh frame x) (segmentCopy sh frame x)) c
+      ∙ ap (λ (n : ℕ). spotOf sh frame (channelOf sh y) n (segmentCopy sh frame x)) m
+      ∙ ap (λ (n : ℕ). spotOf sh frame (channelOf sh y) (segmentBit sh frame y) n) j
+      ∙ sym (spot-back y k)
+
+-- ---- step 8
+
+source-apart : (K i j : ℕ) → i < K → j < K → Second.sourceOf K i ≡ Second.sourceOf K j → i ≡ j
+source-apart K i j h k e = sym (place-source K i h) ∙ ap (Second.placeOf K) e ∙ place-source K j k
+
+slots-apart : (sh : Sheet) (s t a b : ℕ) → a < slotCapacity sh s → b < slotCapacity sh t → slotStart sh s + a ≡ slotStart sh t + b → (s ≡ t) × (a ≡ b)
+slots-apart sh s t a b h k e =
+    let w = by (decLt s t) (decLt t s) in
+    let q : slotStart sh s ≡ slotStart sh t = ap (slotStart sh) w in
+    (w, omega arith)
+  where
+    by : Dec (s < t) → Dec (t < s) → s ≡ t
+    by (yes l) d = absurd (omega (arith, sum-within (slotCapacity sh) s t l))
+    by (no m) (yes l) = absurd (omega (arith, sum-within (slotCapacity sh) t s l))
+    by (no m) (no l) = omega arith
+
+abbrev readBy : Sheet → Bool → ℕ → ℕ → ℕ
+readBy sh m t k =
+    cond m (Second.sourceOf (capacityAll sh) (slotStart sh t + k)) (slotStart sh t + Second.sourceOf (slotCapacity sh t) k)
+
+module _ (sh : Sheet) (s t a b : ℕ) (ls : s < sh .slots) (lt : t < sh .slots) (h : a < slotCapacity sh s) (k : b < slotCapacity sh t) where
+  read-apart : readFrom sh s a ≡ readFrom sh t b → (s ≡ t) × (a ≡ b)
+  unfolding readFrom
+  read-apart = by (eqb (sh .mode) 0)
+    where
+      by : (m : Bool) → readBy sh m s a ≡ readBy sh m t b → (s ≡ t) × (a ≡ b)
+      by true e =
+          slots-apart sh s t a b h k
+          (source-apart (capacityAll sh) (slotStart sh s + a) (slotStart sh t + b) (omega (arith, slot-room sh s ls)) (omega (arith, slot-room sh t lt)) e)
+      by false e =
+          let w =
+          slots-apart sh s t (Second.sourceOf (slotCapacity sh s) a) (Second.sourceOf (slotCapacity sh t) b) (source-below (slotCapacity sh s) a h)
+          (source-below (slotCapacity sh t) b k) e in
+          let q : slotCapacity sh t ≡ slotCapacity sh s = ap (slotCapacity sh) (sym (w .0)) in (
+            w .0,
+            source-apart (slotCapacity sh s) a b h (omega arith) (w .1 ∙ ap (λ (n : ℕ). Second.sourceOf n b) q),
+          )
+
+-- ---- step 9
+
+module _ (sh : Sheet) (t p i q j : ℕ) (hp : p < phchsOf sh t) (i-from : 0 < i) (i-to : i ≤ capacityOf sh t p) (hq : q < phchsOf sh t) (j-from : 0 < j)
+    (j-to : j ≤ capacityOf sh t q) where
+  places-apart : slotBitAt sh t p i ≡ slotBitAt sh t q j → (p ≡ q) × (i ≡ j)
+  unfolding slotBitAt
+  places-apart e =
+      let U = capacityOf sh t in
+      let x = filledAs (U p) (p + 1) i in
+      let y = filledAs (U q) (q + 1) j in
+      let w =
+      number-apart U ones (phchsOf sh t) (λ r l. omega arith) p x q y hp (filled-in (U p) (p + 1) i i-from i-to) hq
+      (filled-in (U q) (q + 1) j j-from j-to) e in (
+        w .0,
+        sym (pos-filled (U p) (p + 1) i i-from i-to)
+            ∙ ap (posOf (U p) (p + 1)) (w .1)
+            ∙ ap (λ (r : ℕ). posOf (U r) (r + 1) y) (w .0)
+            ∙ pos-filled (U q) (q + 1) j j-from j-to,
+      )
+
+-- S6: places with one name are one place
+module _ (sh : Sheet) (ok : Accepted sh) (frame s p i t q j : ℕ) (a : Exists sh s p i) (b : Exists sh t q j) where
+  pub apart : nameOf sh frame s p i ≡ nameOf sh frame t q j → (s ≡ t) × (p ≡ q) × (i ≡ j)
+  unfolding nameOf multiplexedAt
+  apart e =
+      let x : multiplexedAt sh s p i ≡ multiplexedAt sh t q j =
+      index-apart sh ok frame (multiplexedAt sh s p i) (multiplexedAt sh t q j) (index-below sh s p i a) (index-below sh t q j b) e in
+      let w =
+      read-apart sh (s - 1) (t - 1) (slotBitAt sh (s - 1) (p - 1) i) (slotBitAt sh (t - 1) (q - 1) j) (slot-in sh s p i a) (slot-in sh t q j b)
+      (number-in sh s p i a) (number-in sh t q j b) x in
+      let st : s ≡ t = omega (arith, w .0, a .slot-from, b .slot-from) in
+      let b′ : Exists sh s q j = rw st b in
+      let n : slotBitAt sh (s - 1) (p - 1) i ≡ slotBitAt sh (s - 1) (q - 1) j =
+      w .1 ∙ ap (λ (r : ℕ). slotBitAt sh r (q - 1) j) (sym (w .0)) in
+      let v =
+      places-apart sh (s - 1) (p - 1) i (q - 1) j (phch-in sh s p i a) (a .place-from) (a .place-to) (phch-in sh s q j b′) (b′ .place-from)
+      (b′ .place-to) n in
+      (st, omega (arith, v .0, a .phch-from, b .phch-from), v .1)

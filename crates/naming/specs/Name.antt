@@ -1,0 +1,119 @@
+-- The frame of labels, and the name of a place by direct calculation. Channels, slots, physical channels, places and bits of a name are counted
+-- from 1, as in the documents, copies from 0.
+use mathlib.Core.Path.{_≡_}
+use mathlib.Core.Bool.{cond}
+use mathlib.Core.List.{List}
+use Prim.Native.Nat.{ℕ, suc, _+_, _*_, _-_, _%_, _≤_, _<_}
+use lib.Dec.{eqb, ltb}
+use lib.ListN.{getD}
+use Rattle.laws.specs.Sums.{sumTo}
+use Rattle.laws.specs.Tables.{table}
+use Rattle.sheet.specs.Fields.{ttiOf, encodedOf, phchsOf, capacityOf}
+use Rattle.sheet.specs.Sizes.{framesOf, sizeOf, equalisedOf, slotCapacity, capacityAll}
+use Rattle.sheet.specs.declared.Sheet.{Sheet}
+use Rattle.orders.specs.Orders.{columnAt}
+use Rattle.matching.specs.Shares.{cutOf, changeOf, channelOf}
+use Rattle.pattern.specs.Closed.{sourceOf, copyOf}
+use Rattle.interleaving.specs.Second as Second
+use Rattle.mapping.specs.Mapping.{numberOf, filledAs, ones}
+use Rattle.frame.specs.Frame.{startAt, slotStart, frameOf}
+
+-- a bit is numbered before step 2, 1 to T_i; above E_i it is a filler
+pub record Name : Type 0 where
+  pub channel : ℕ
+  pub bit : ℕ
+  pub copy : ℕ
+
+pub record Label : Type 0 where
+  pub channel : ℕ
+  pub bit : ℕ
+
+-- ---- the frame of labels: each channel's bits 1 to T_i, as each step moves them
+
+abbrev pub labelAt : ℕ → ℕ → Label
+labelAt i m = record { channel = suc i; bit = suc m }
+
+unfoldable pub labels : Sheet → ℕ → List Label
+labels sh i = table (labelAt i) 0 (equalisedOf sh i)
+
+abbrev pub named : Label → ℕ → Name
+named l copy = record { channel = l .channel; bit = l .bit; copy = copy }
+
+unfoldable pub labelFrame : Sheet → ℕ → List Name
+labelFrame sh frame = frameOf named sh frame (labels sh)
+
+-- the index of a place in the frame: slot, then PhCH, then place
+unfoldable pub indexOf : Sheet → ℕ → ℕ → ℕ → ℕ
+indexOf sh slot phch place = slotStart sh (slot - 1) + sumTo (capacityOf sh (slot - 1)) (phch - 1) + (place - 1)
+
+-- ---- the direct calculation, backwards from step 9, for slot t and physical channel p, both from 0
+
+-- step 9: the place is filled as bit x of its PhCH, upwards in an odd one and downwards in an even one; that is the slot's bit
+-- x + (sum of min(U, x + 1) over the PhCHs before) + (sum of min(U, x) over those after)
+unfoldable pub slotBitAt : Sheet → ℕ → ℕ → ℕ → ℕ
+slotBitAt sh t p place = numberOf (capacityOf sh t) ones (phchsOf sh t) p (filledAs (capacityOf sh t p) (p + 1) place)
+
+-- step 8: from where the slot's bit k is read. Mode 0: over all D bits; mode 1: within the slot
+unfoldable pub readFrom : Sheet → ℕ → ℕ → ℕ
+readFrom sh t k =
+    cond (eqb (sh .mode) 0)
+    (Second.sourceOf (capacityAll sh) (slotStart sh t + k))
+    (slotStart sh t + Second.sourceOf (slotCapacity sh t) k)
+
+-- the index of the multiplexed frame that stands at a place
+unfoldable pub multiplexedAt : Sheet → ℕ → ℕ → ℕ → ℕ
+multiplexedAt sh slot phch place = readFrom sh (slot - 1) (slotBitAt sh (slot - 1) (phch - 1) place)
+
+-- bit m, from 0, of channel i's segment of a frame stands, before step 2, in row m of column P(n), n being the frame number mod F
+unfoldable pub bitNumber : Sheet → ℕ → ℕ → ℕ → ℕ
+bitNumber sh frame i m = m * framesOf sh i + columnAt (ttiOf sh i) (frame % framesOf sh i) + 1
+
+-- steps 7 to 2, for index x of the multiplexed frame: channel i is the least whose Z is above x, and the bit and the copy are those that step 6
+-- has at x less the Z before, by how many it dropped or added before
+unfoldable pub nameAt : Sheet → ℕ → ℕ → Name
+nameAt sh frame x =
+    let i = channelOf sh x in
+    let v = x - cutOf sh i in
+    record {
+      channel = i + 1;
+      bit = bitNumber sh frame i (sourceOf (changeOf sh i) (sizeOf sh i) (startAt sh frame i) v);
+      copy = copyOf (changeOf sh i) (sizeOf sh i) (startAt sh frame i) v;
+    }
+
+unfoldable pub nameOf : Sheet → ℕ → ℕ → ℕ → ℕ → Name
+nameOf sh frame slot phch place = nameAt sh frame (multiplexedAt sh slot phch place)
+
+-- ---- what a name names
+
+-- the place exists
+pub record Exists (sh : Sheet) (slot phch place : ℕ) : Type 0 where
+  pub slot-from : 0 < slot
+  pub slot-to : slot ≤ sh .slots
+  pub phch-from : 0 < phch
+  pub phch-to : phch ≤ phchsOf sh (slot - 1)
+  pub place-from : 0 < place
+  pub place-to : place ≤ capacityOf sh (slot - 1) (phch - 1)
+
+-- the name's channel and bit exist
+pub record Inside (sh : Sheet) (n : Name) : Type 0 where
+  pub channel-from : 0 < n .channel
+  pub channel-to : n .channel ≤ sh .channels
+  pub bit-from : 0 < n .bit
+  pub bit-to : n .bit ≤ equalisedOf sh (n .channel - 1)
+
+-- what the contents, channels in order and E bits each, have for a named bit: a filler is 0
+unfoldable pub contentOf : Sheet → List ℕ → Name → ℕ
+contentOf sh contents n =
+    cond (ltb (encodedOf sh (n .channel - 1)) (n .bit)) 0 (getD contents (sumTo (encodedOf sh) (n .channel - 1) + (n .bit - 1)) 0)
+
+-- a copy of bit m, from 0, of channel i's segment of a frame
+unfoldable pub bitName : Sheet → ℕ → ℕ → ℕ → ℕ → Name
+bitName sh frame i m copy = record { channel = i + 1; bit = bitNumber sh frame i m; copy = copy }
+
+-- some place is named by it
+pub record NamedBy (sh : Sheet) (frame i m copy : ℕ) : Type 0 where
+  pub slot : ℕ
+  pub phch : ℕ
+  pub place : ℕ
+  pub there : Exists sh slot phch place
+  pub named : nameOf sh frame slot phch place ≡ bitName sh frame i m copy
