@@ -1,2 +1,3 @@
 // A frame: steps 1 to 9, one after the other.
+pub mod multiplexing;
 pub mod spreading;

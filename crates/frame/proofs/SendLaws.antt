@@ -1,0 +1,159 @@
+-- Laws of what one channel sends, as the code works it out.
+use mathlib.Core.Path.{_≡_, refl, sym, ap, ap₂, _∙_, subst}
+use mathlib.Core.Bool.{Bool}
+use mathlib.Core.List.{List, [], _∷_, _++_}
+use Prim.Native.Nat.{ℕ, zero, suc, _+_, _-_, _%_, _≤_, _<_}
+use native.Mathlib.Numerals.{add-one}
+use native.Mathlib.Omega.{arith}
+use lib.IntN.{ℤ, pos, negsuc, natAbs}
+use borrow.Rule.Slice.PartMut.{putMid}
+use lib.ListN.{length, getD, take, drop, length-append, length-drop}
+use lib.Seq.{length-take-le}
+use Rattle.laws.specs.Sums.{sumTo}
+use Rattle.laws.specs.Laid.{Laid}
+use Rattle.laws.specs.Joined.{joined}
+use Rattle.laws.proofs.SumLaws.{sum-within}
+use Rattle.laws.proofs.LeastLaws.{rises}
+use Rattle.sheet.specs.Counts.{mostBits}
+use Rattle.sheet.specs.Fields.{ttiOf, encodedOf}
+use Rattle.sheet.specs.Sizes.{framesOf, sizeOf, encodedAll, capacityAll}
+use Rattle.sheet.specs.Range.{Accepted}
+use Rattle.sheet.specs.declared.Sheet.{Sheet}
+use Rattle.orders.proofs.OrderLaws.{frames-bounds}
+use Rattle.matching.specs.Signed.{signedBy}
+use Rattle.matching.specs.Shares.{weightOf, cutOf, shareOf, changeOf}
+use Rattle.matching.proofs.ShareLaws.{cut-first, cut-up, cut-last}
+use Rattle.offset.specs.Offset.{startOf}
+use Rattle.opening.proofs.OpenLaws.{sizes-most, weighs, low-is, high-is, cut-rises}
+use Rattle.opening.specs.Opened.{Opens}
+use Rattle.opening.specs.declared.Opened.{Opened}
+use Rattle.pattern.specs.Pattern.{asIs, walked, matched, Segment}
+use Rattle.pattern.proofs.MatchedLaws.{matched-same}
+use Rattle.pattern.proofs.SegmentLaws.{magnitude}
+use Rattle.interleaving.specs.First.{equalised, segmentOf, Segmenting}
+use Rattle.interleaving.proofs.EqualisedLaws.{segments-hold, equalised-length}
+use Rattle.frame.specs.Frame.{startAt, sentOf, contentsOf}
+use Rattle.frame.proofs.SpreadLaws.{part-length, one-more}
+use Rattle.frame.proofs.FrameLaws.{rates, sent-matched, length-part}
+
+-- where there is no bit, or d = 0, no start counts
+pub matched-start : {A B : Type 0} (f : A → ℕ → B) (d : ℤ) (N e s : ℕ) (xs : List A) → length xs ≡ N → (0 < N → 0 < natAbs d → e ≡ s)
+    → matched f d N e xs ≡ matched f d N s xs
+unfolding matched walked
+matched-start f d N e s [] n h = refl
+matched-start f (pos zero) N e s (x ∷ xs) n h = matched-same f N e (x ∷ xs) ∙ sym (matched-same f N s (x ∷ xs))
+matched-start f (pos (suc a)) N e s (x ∷ xs) n h = ap (λ (k : ℕ). matched f (pos (suc a)) N k (x ∷ xs)) (h (omega arith) (omega arith))
+matched-start f (negsuc a) N e s (x ∷ xs) n h = ap (λ (k : ℕ). matched f (negsuc a) N k (x ∷ xs)) (h (omega arith) (omega arith))
+
+module _ (sh : Sheet) (ok : Accepted sh) (i : ℕ) (l : i < sh .channels) where
+  -- what is lent for the segment
+  pub segmenting : (frame : ℕ) {t k n e : ℕ} → t ≡ ttiOf sh i → k ≡ frame % framesOf sh i → k < framesOf sh i → n ≡ sizeOf sh i → e ≡ encodedOf sh i
+      → Segmenting t n k e n
+  segmenting frame et ek lk en ee =
+      let b = frames-bounds (ttiOf sh i) (ok .ranged .tti i l) in
+      rw (et, en, ee) (record { known = ok .ranged .tti i l; inside = lk; fits = segments-hold (encodedOf sh i) (framesOf sh i) (b .0) .0; room = refl })
+
+  -- what is asked of the pattern: d by its sign and magnitude, and a start that is step 5's where there is a pattern
+  pub sending : (frame : ℕ) (less : Bool) (m e : ℕ) {N W : ℕ} → signedBy less m ≡ changeOf sh i → m ≤ mostBits → N ≡ sizeOf sh i → W ≡ shareOf sh i
+      → (0 < sizeOf sh i → 0 < m → e ≡ startAt sh frame i) → Segment less m N W e
+  sending frame less m e ed em en ew h =
+      let r = rates sh ok frame i in
+      rw (en, ew)
+      (record {
+        few = sizes-most sh ok i l;
+        most = em;
+        rates =
+            record {
+              change = ed ∙ r .change;
+              empty = r .empty;
+              start =
+                  λ a b.
+                  let p : 0 < m = rw (magnitude less m) at b in
+                  let q : 0 < natAbs (changeOf sh i) = rw ed at b in
+                  rw (h a p) (r .start a q);
+            };
+      })
+
+  -- and what comes out is what the channel sends
+  pub sent-is : (frame : ℕ) (less : Bool) (m e : ℕ) (c : List ℕ) {t k n : ℕ} {seg out : List ℕ} → t ≡ ttiOf sh i → k ≡ frame % framesOf sh i
+      → n ≡ sizeOf sh i → signedBy less m ≡ changeOf sh i → (0 < sizeOf sh i → 0 < m → e ≡ startAt sh frame i)
+      → seg ≡ segmentOf t k n (equalised 0 t n c) → length seg ≡ sizeOf sh i → out ≡ matched asIs (signedBy less m) (length seg) e seg
+      → out ≡ sentOf asIs sh frame i (equalised 0 (ttiOf sh i) (sizeOf sh i) c)
+  sent-is frame less m e c {t} {k} {n} {seg} {out} et ek en ed h es ls eo =
+      let q : segmentOf t k n (equalised 0 t n c) ≡ segmentOf (ttiOf sh i) (frame % framesOf sh i) (sizeOf sh i) (equalised 0 (ttiOf sh i) (sizeOf sh i) c) =
+      rw (et, ek, en) refl
+      in
+      eo
+      ∙ ap₂ (λ (d : ℤ) (n : ℕ). matched asIs d n e seg) ed ls
+      ∙ matched-start asIs (changeOf sh i) (sizeOf sh i) e (startAt sh frame i) seg ls
+      (λ a b. h a (let p : 0 < natAbs (signedBy less m) = rw ed b in rw (magnitude less m) at p))
+      ∙ ap (matched asIs (changeOf sh i) (sizeOf sh i) (startAt sh frame i)) (es ∙ q)
+      ∙ sym (sent-matched asIs sh ok frame i (equalised 0 (ttiOf sh i) (sizeOf sh i) c))
+
+  -- the segment has N bits
+  pub segment-sized : (frame : ℕ) (c : List ℕ) {t k n : ℕ} {seg : List ℕ} → t ≡ ttiOf sh i → k ≡ frame % framesOf sh i → n ≡ sizeOf sh i
+      → length c ≡ encodedOf sh i → seg ≡ segmentOf t k n (equalised 0 t n c) → length seg ≡ sizeOf sh i
+  segment-sized frame c {t} {k} {n} et ek en ec es =
+      let q : segmentOf t k n (equalised 0 t n c) ≡ segmentOf (ttiOf sh i) (frame % framesOf sh i) (sizeOf sh i) (equalised 0 (ttiOf sh i) (sizeOf sh i) c) =
+      rw (et, ek, en) refl
+      in
+      let b = frames-bounds (ttiOf sh i) (ok .ranged .tti i l) in
+      let h = segments-hold (encodedOf sh i) (framesOf sh i) (b .0) .0 in
+      ap length (es ∙ q)
+      ∙ length-part asIs sh ok frame i (equalised 0 (ttiOf sh i) (sizeOf sh i) c) l
+      (equalised-length 0 (ttiOf sh i) (sizeOf sh i) c (omega arith))
+
+  -- the start that the code works out is step 5's where there is a pattern
+  pub started : (frame : ℕ) (less : Bool) (m : ℕ) {e N : ℕ} → N ≡ sizeOf sh i → signedBy less m ≡ changeOf sh i
+      → (0 < N → 0 < m → e ≡ startOf N (signedBy less m) (ttiOf sh i) frame) → 0 < sizeOf sh i → 0 < m → e ≡ startAt sh frame i
+  unfolding startAt
+  started frame less m en ed h a p =
+      h (omega arith) p ∙ ap₂ (λ (n : ℕ) (d : ℤ). startOf n d (ttiOf sh i) frame) en ed
+
+-- channel after channel: the part of the contents, and the part of the multiplexed frame
+module _ (o : Opened) (h : Opens o) (i : ℕ) (l : i < o .fields .channels) where
+  abbrev sh : Sheet
+  sh = o .fields
+
+  pub content-within : {from k : ℕ} → from ≡ sumTo (encodedOf sh) i → k ≡ encodedOf sh i → from + k ≤ encodedAll sh
+  content-within p q = omega (arith, sum-within (encodedOf sh) i (sh .channels) l)
+
+  pub content-part : (c : List ℕ) {from k : ℕ} → from ≡ sumTo (encodedOf sh) i → k ≡ encodedOf sh i → length c ≡ encodedAll sh
+      → (take (from + k - from) (drop from c) ≡ contentsOf sh c i) × (length (take (from + k - from) (drop from c)) ≡ encodedOf sh i)
+  unfolding contentsOf
+  content-part c {from} {k} p q n =
+      let e : from + k - from ≡ encodedOf sh i = omega arith in (
+        ap₂ (λ (x y : ℕ). take x (drop y c)) e p,
+        part-length c from (from + k) (omega arith) (omega (arith, content-within p q)) ∙ e,
+      )
+
+  pub cut-share : getD (o .cuts) (i + 1) 0 - getD (o .cuts) i 0 ≡ shareOf sh i
+  cut-share = ap₂ _-_ (high-is o h i l) (low-is o h i l)
+
+  pub cut-within : getD (o .cuts) (i + 1) 0 ≤ capacityAll sh
+  cut-within =
+      let d = capacityAll sh in
+      let w = weightOf sh in
+      let n = sh .channels in
+      let p = weighs sh (h .accepted) in
+      let up : (k : ℕ) → k < n → cutOf sh k ≤ cutOf sh (suc k) = λ k m. rw add-one at (cut-up d w n p k) in
+      omega (arith, high-is o h i l, rises (cutOf sh) n up (i + 1) n (omega arith) (omega arith), cut-last d w n p)
+
+  -- one channel more is laid
+  pub sent-more : (g : ℕ → List ℕ) (was out : List ℕ) {y : List ℕ} → Laid was out (cutOf sh i) (joined g i)
+      → length y ≡ getD (o .cuts) (i + 1) 0 - getD (o .cuts) i 0 → y ≡ g i
+      → Laid was (putMid (getD (o .cuts) i 0) (getD (o .cuts) (i + 1) 0 - getD (o .cuts) i 0) out y) (cutOf sh (i + 1)) (joined g (i + 1))
+  sent-more g was out {y} w n q =
+      let put = putMid (getD (o .cuts) i 0) (getD (o .cuts) (i + 1) 0 - getD (o .cuts) i 0) out y in
+      let v = subst (λ (k : ℕ). Laid was out k (joined g i)) (sym (low-is o h i l)) w in
+      subst (λ (k : ℕ). Laid was put k (joined g (i + 1))) (high-is o h i l) (one-more g was out _ _ i v (cut-rises o h i l) n q)
+
+-- a list whose beginning was lent is as long as before
+pub prefix-long : {A : Type 0} (xs y : List A) (n : ℕ) → length y ≡ length (take n xs) → n ≤ length xs → length (y ++ drop n xs) ≡ length xs
+prefix-long xs y n e b = length-append y (drop n xs) ∙ omega (arith, length-take-le n xs b, length-drop n xs)
+
+-- nothing is laid before the first channel
+pub sent-none : {A : Type 0} (sh : Sheet) → Accepted sh → (xs : List A) → Laid xs xs (cutOf sh 0) []
+sent-none sh ok xs =
+    let e : cutOf sh 0 ≡ 0 = cut-first (capacityAll sh) (weightOf sh) (sh .channels) (weighs sh ok) in
+    record { end = e; text = ap (λ (k : ℕ). drop k xs) (sym e) }
