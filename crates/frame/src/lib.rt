@@ -1,3 +1,4 @@
 // A frame: steps 1 to 9, one after the other.
+pub mod building;
 pub mod multiplexing;
 pub mod spreading;

@@ -64,3 +64,12 @@ pub fn spread_bits(bits: &[u8], fields: Sheet, room: &mut [u8], out: &mut [u8])
     interleave_bits(bits, fields, room);
     map_slots(room, fields, out);
 }
+
+// The same where the multiplexed bits stand in the frame's own place.
+pub fn spread_over(fields: Sheet, room: &mut [u8], out: &mut [u8])
+    requires { ⌜ Accepted fields × (length (now room) ≡ capacityAll fields) × (length (now out) ≡ capacityAll fields) ⌝ }
+    ensures { λ _. ⌜ now (out .exit) ≡ spread fields (now (out .entry)) ⌝ }
+{
+    interleave_bits(out, fields, room);
+    map_slots(room, fields, out);
+}
