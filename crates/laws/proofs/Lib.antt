@@ -7,3 +7,4 @@ pub mod JoinedLaws
 pub mod PartLaws
 pub mod FillingLaws
 pub mod TodoLaws
+pub mod FirstFailLaws

@@ -4,3 +4,4 @@ pub mod Laid
 pub mod Least
 pub mod Joined
 pub mod Filling
+pub mod FirstFail
