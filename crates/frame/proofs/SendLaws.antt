@@ -3,7 +3,6 @@ use mathlib.Core.Path.{_≡_, refl, sym, ap, ap₂, _∙_, subst}
 use mathlib.Core.Bool.{Bool}
 use mathlib.Core.List.{List, [], _∷_, _++_}
 use Prim.Native.Nat.{ℕ, zero, suc, _+_, _-_, _%_, _≤_, _<_}
-use native.Mathlib.Numerals.{add-one}
 use native.Mathlib.Omega.{arith}
 use lib.IntN.{ℤ, pos, negsuc, natAbs}
 use borrow.Rule.Slice.PartMut.{putMid}
@@ -13,7 +12,6 @@ use Rattle.laws.specs.Sums.{sumTo}
 use Rattle.laws.specs.Laid.{Laid}
 use Rattle.laws.specs.Joined.{joined}
 use Rattle.laws.proofs.SumLaws.{sum-within}
-use Rattle.laws.proofs.LeastLaws.{rises}
 use Rattle.sheet.specs.Counts.{mostBits}
 use Rattle.sheet.specs.Fields.{ttiOf, encodedOf}
 use Rattle.sheet.specs.Sizes.{framesOf, sizeOf, encodedAll, capacityAll}
@@ -22,7 +20,7 @@ use Rattle.sheet.specs.declared.Sheet.{Sheet}
 use Rattle.orders.proofs.OrderLaws.{frames-bounds}
 use Rattle.matching.specs.Signed.{signedBy}
 use Rattle.matching.specs.Shares.{weightOf, cutOf, shareOf, changeOf}
-use Rattle.matching.proofs.ShareLaws.{cut-first, cut-up, cut-last}
+use Rattle.matching.proofs.ShareLaws.{cut-first, cut-most}
 use Rattle.offset.specs.Offset.{startOf}
 use Rattle.opening.proofs.OpenLaws.{sizes-most, weighs, low-is, high-is, cut-rises}
 use Rattle.opening.specs.Opened.{Opens}
@@ -132,12 +130,7 @@ module _ (o : Opened) (h : Opens o) (i : ℕ) (l : i < o .fields .channels) wher
 
   pub cut-within : getD (o .cuts) (i + 1) 0 ≤ capacityAll sh
   cut-within =
-      let d = capacityAll sh in
-      let w = weightOf sh in
-      let n = sh .channels in
-      let p = weighs sh (h .accepted) in
-      let up : (k : ℕ) → k < n → cutOf sh k ≤ cutOf sh (suc k) = λ k m. rw add-one at (cut-up d w n p k) in
-      omega (arith, high-is o h i l, rises (cutOf sh) n up (i + 1) n (omega arith) (omega arith), cut-last d w n p)
+      omega (arith, high-is o h i l, cut-most (capacityAll sh) (weightOf sh) (sh .channels) (weighs sh (h .accepted)) (i + 1) (omega arith))
 
   -- one channel more is laid
   pub sent-more : (g : ℕ → List ℕ) (was out : List ℕ) {y : List ℕ} → Laid was out (cutOf sh i) (joined g i)

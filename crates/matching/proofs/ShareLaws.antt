@@ -39,6 +39,13 @@ module _ (d : ℕ) (w : ℕ → ℕ) (n : ℕ) (p : 0 < sumTo w n) where
       let l : sumTo w i ≤ sumTo w (i + 1) = omega (arith, sum-more w i refl refl) in
       le-div-iff-mul-le p .1 (le-trans (div-mul-le-self (d * sumTo w i) (sumTo w n)) (mul-le-mul-left d l))
 
+  pub cuts-rise : (k : ℕ) → k < n → cutIn d w n k ≤ cutIn d w n (suc k)
+  cuts-rise k l = rw add-one at (cut-up k)
+
+  -- no Z is over D
+  pub cut-most : (i : ℕ) → i ≤ n → cutIn d w n i ≤ d
+  cut-most i l = omega (arith, rises (cutIn d w n) n cuts-rise i n l (omega arith), cut-last)
+
   pub shares-to : (i : ℕ) → sumTo (shareIn d w n) i ≡ cutIn d w n i
   unfolding sumTo
   shares-to zero = sym cut-first
@@ -63,13 +70,7 @@ empty-share sh i p z =
 
 -- no share is over D
 pub share-most : (sh : Sheet) (i : ℕ) → 0 < weightAll sh → i < sh .channels → shareOf sh i ≤ capacityAll sh
-share-most sh i p h =
-    let d = capacityAll sh in
-    let w = weightOf sh in
-    let n = sh .channels in
-    let up : (k : ℕ) → k < n → cutIn d w n k ≤ cutIn d w n (suc k) = λ k l. rw add-one at (cut-up d w n p k) in
-    let b : cutIn d w n (i + 1) ≤ cutIn d w n n = rises (cutIn d w n) n up (i + 1) n (omega arith) (omega arith) in
-    omega (arith, cut-last d w n p)
+share-most sh i p h = omega (arith, cut-most (capacityAll sh) (weightOf sh) (sh .channels) p (i + 1) (omega arith))
 
 -- step 7: the channel of an index
 pub channel-passes : (sh : Sheet) (x : ℕ) → 0 < weightAll sh → x < capacityAll sh → Passes (cutOf sh) x 0 (sh .channels) (channelOf sh x)

@@ -3,33 +3,30 @@
 use mathlib.Core.Path.{_≡_, sym, ap, _∙_, subst}
 use mathlib.Core.Logic.{_↔_}
 use mathlib.Core.List.{List, map}
-use Prim.Native.Nat.{ℕ, suc, _+_, _-_, _≤_, _<_}
+use Prim.Native.Nat.{ℕ, suc, _+_, _-_, _<_}
 use native.Mathlib.Omega.{arith}
 use lib.ListN.{length, getD, length-map, List·getD-map}
 use lib.Seq.{ext-getD}
 use Rattle.laws.proofs.TestLaws.{split}
-use Rattle.laws.proofs.LeastLaws.{rises, passes-one}
+use Rattle.laws.proofs.LeastLaws.{passes-one}
 use Rattle.sheet.specs.Sizes.{sizeOf, equalisedOf, capacityAll}
 use Rattle.sheet.specs.Range.{Accepted}
 use Rattle.sheet.specs.declared.Sheet.{Sheet}
-use Rattle.matching.specs.Shares.{cutOf, shareOf, changeOf, channelOf}
-use Rattle.matching.proofs.ShareLaws.{channel-passes}
+use Rattle.matching.specs.Shares.{weightOf, cutOf, shareOf, changeOf, channelOf}
+use Rattle.matching.proofs.ShareLaws.{cuts-rise, cut-most, channel-passes}
 use Rattle.pattern.specs.Pattern.{copiesOf}
 use Rattle.pattern.specs.Closed.{sentBefore, Dropped}
 use Rattle.pattern.proofs.MatchedLaws.{none-sent}
 use Rattle.pattern.proofs.SourceLaws.{source-kept, Kept, kept}
 use Rattle.opening.proofs.OpenLaws.{weighs}
 use Rattle.frame.specs.Frame.{startAt, frameOf}
-use Rattle.frame.proofs.FrameLaws.{rates, cuts-end, cut-next, length-frame}
+use Rattle.frame.proofs.FrameLaws.{rates, cut-next, length-frame}
 use Rattle.naming.specs.Name.{Name, named, labels, labelFrame, indexOf, multiplexedAt, bitNumber, nameAt, nameOf, bitName, NamedBy}
 use Rattle.naming.proofs.Multiplexed.{lies}
 use Rattle.naming.proofs.Slots.{index-below}
 use Rattle.naming.proofs.Named.{stands, labels-full, names}
 use Rattle.naming.proofs.Apart.{bits-apart, segmentBit, segmentCopy, spotOf, apart}
 use Rattle.naming.proofs.Places.{place-onto, index-onto}
-
-cuts-rise : (sh : Sheet) → Accepted sh → (k : ℕ) → k < sh .channels → cutOf sh k ≤ cutOf sh (suc k)
-cuts-rise sh ok k b = omega (arith, cut-next sh ok k)
 
 module _ (sh : Sheet) (ok : Accepted sh) (frame i m : ℕ) (l : i < sh .channels) (h : m < sizeOf sh i) where
   -- how many copies of the bit step 6 sends
@@ -49,13 +46,12 @@ module _ (sh : Sheet) (ok : Accepted sh) (frame i m : ℕ) (l : i < sh .channels
           arith,
           here .within,
           cut-next sh ok i,
-          rises (cutOf sh) (sh .channels) (cuts-rise sh ok) (suc i) (sh .channels) l (omega arith),
-          cuts-end sh ok,
+          cut-most (capacityAll sh) (weightOf sh) (sh .channels) (weighs sh ok) (suc i) l,
         )
 
     spot-channel : channelOf sh spot ≡ i
     spot-channel =
-        passes-one (cutOf sh) spot (sh .channels) (channelOf sh spot) i (cuts-rise sh ok) (channel-passes sh spot (weighs sh ok) spot-below) l (omega arith)
+        passes-one (cutOf sh) spot (sh .channels) (channelOf sh spot) i (cuts-rise (capacityAll sh) (weightOf sh) (sh .channels) (weighs sh ok)) (channel-passes sh spot (weighs sh ok) spot-below) l (omega arith)
         (omega (arith, here .within, cut-next sh ok i))
 
     spot-name : nameAt sh frame spot ≡ bitName sh frame i m j
