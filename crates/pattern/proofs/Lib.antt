@@ -6,3 +6,4 @@ pub mod TextLaws
 pub mod SegmentLaws
 pub mod LeftLaws
 pub mod Example
+pub mod StoodLaws

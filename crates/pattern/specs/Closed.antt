@@ -1,6 +1,7 @@
 -- Step 6 without the running e: how many bits were dropped or added before a point, and what follows from that.
+use mathlib.Core.Path.{_≡_}
 use mathlib.Core.Logic.{_≢_}
-use Prim.Native.Nat.{ℕ, zero, suc, _+_, _*_, _-_, _/_}
+use Prim.Native.Nat.{ℕ, zero, suc, _+_, _*_, _-_, _/_, _<_}
 use lib.IntN.{ℤ, pos, negsuc}
 use Rattle.laws.specs.Least.{first}
 
@@ -30,3 +31,9 @@ copyOf d N e v = v - sentBefore d N e (sourceOf d N e v)
 abbrev pub Dropped : ℤ → ℕ → ℕ → ℕ → Type 0
 Dropped (pos a) N e m = ⊥
 Dropped (negsuc a) N e m = changed (negsuc a) N e (suc m) ≢ changed (negsuc a) N e m
+
+-- copy j of bit m, from 0, is what stands at v
+pub record Stood (d : ℤ) (N e v m j : ℕ) : Type 0 where
+  pub bit : m ≡ sourceOf d N e v
+  pub copy : j ≡ copyOf d N e v
+  pub within : m < N

@@ -6,6 +6,8 @@ ghost use lib.ListN.{length};
 ghost use Rattle.matching.specs.Signed.{signedBy};
 ghost use Rattle.pattern.specs.Pattern.{matched, asIs, Segment};
 
+pub mod closed;
+
 // d = 0: the bits as they are.
 fn copy(src: &[u8], dst: &mut [u8])
     requires { ⌜ length (now dst) ≡ length (now src) ⌝ }
