@@ -6,12 +6,16 @@ use native.Mathlib.Numerals.{add-one}
 use native.Mathlib.Omega.{arith}
 use lib.ListN.{length, getD, set}
 use Rattle.laws.specs.Filling.{Filling}
+use Rattle.laws.specs.Sums.{sumTo}
 use Rattle.laws.proofs.FillingLaws.{filling-put, filling-next, filling-ends}
+use Rattle.laws.proofs.LeastLaws.{passes-one}
+use Rattle.laws.proofs.TestLaws.{split}
 use Rattle.laws.proofs.TableLaws.{tabled}
 use Rattle.orders.specs.Orders.{order}
 use Rattle.orders.proofs.OrderLaws.{order-turn}
-use Rattle.interleaving.specs.Second.{secondInterleaved, readBefore, placeOf, secondUndone}
-use Rattle.interleaving.proofs.SecondLaws.{read-suc, read-all, place-row, place-below, place-once, second-length, second-place}
+use Rattle.interleaving.specs.Columns.{height}
+use Rattle.interleaving.specs.Second.{secondInterleaved, readBefore, placeOf, turnAt, sourceOf, secondUndone}
+use Rattle.interleaving.proofs.SecondLaws.{read-suc, read-all, place-row, place-below, place-once, turn-passes, second-length, second-place}
 
 -- of K elements, in turn t, element i goes to index k
 pub record Reading (K t k i : ℕ) : Type 0 where
@@ -44,6 +48,45 @@ module _ {K t k i : ℕ} (r : Reading K t k i) where
 
     pub reading-below : k < K
     reading-below = omega (arith, reading-place, place-below K i h)
+
+-- the walk back: index j lies in turn t or past it, left elements further
+pub record Passing (K j t c h left : ℕ) : Type 0 where
+  pub turn : t < 30
+  pub column : c ≡ getD order t 0
+  pub high : h ≡ height 30 K c
+  pub index : readBefore K t + left ≡ j
+
+pub passing-starts : (K j : ℕ) {c h : ℕ} → c ≡ getD order 0 0 → h ≡ height 30 K c → Passing K j 0 c h j
+unfolding sumTo
+passing-starts K j e q = record { turn = omega arith; column = e; high = q; index = omega arith }
+
+module _ {K j t c h left : ℕ} (p : Passing K j t c h left) where
+  -- the turn's elements
+  passing-high : readBefore K (suc t) ≡ readBefore K t + h
+  passing-high = read-suc K t ∙ ap (λ (n : ℕ). readBefore K t + n) (ap (height 30 K) (sym (p .column)) ∙ sym (p .high))
+
+  module _ (l : j < K) where
+    -- past the turn there is another
+    pub passing-more : h ≤ left → t + 1 < 30
+    passing-more b =
+        split t 28 (λ le. omega arith)
+        (λ lt.
+        let e : suc t ≡ 30 = omega (arith, p .turn) in
+        absurd (omega (arith, p .index, passing-high, ap (readBefore K) e, read-all K)))
+
+    pub passing-next : h ≤ left → {d g : ℕ} → d ≡ getD order (t + 1) 0 → g ≡ height 30 K d → Passing K j (t + 1) d g (left - h)
+    passing-next b e q =
+        record { turn = passing-more b; column = e; high = q; index = rw (add-one t) (omega (arith, p .index, passing-high)) }
+
+    -- within the turn
+    pub passing-ends : left < h → 30 * left + c ≡ sourceOf K j
+    unfolding sourceOf
+    passing-ends b =
+        let up : (k : ℕ) → k < 30 → readBefore K k ≤ readBefore K (suc k) = λ k m. omega (arith, read-suc K k) in
+        let q : turnAt K j ≡ t =
+        passes-one (readBefore K) j 30 (turnAt K j) t up (turn-passes K j l) (p .turn) (omega (arith, p .index)) (omega (arith, p .index, passing-high))
+        in
+        rw q (omega (arith, p .index, p .column))
 
 -- interleaving: index k is written
 module _ {A : Type 0} (z : A) (src : List A) where

@@ -1,8 +1,11 @@
 // Step 8 and its undoing.
 ghost use mathlib.Core.Path.{_≡_};
+ghost use Prim.Native.Nat.{_≤_, _<_};
 ghost use lib.Ieee.{nan};
 ghost use lib.ListN.{length};
-ghost use Rattle.interleaving.specs.Second.{secondInterleaved, secondUndone};
+ghost use Rattle.sheet.specs.Counts.{mostBits};
+ghost use Rattle.interleaving.specs.Columns.{height};
+ghost use Rattle.interleaving.specs.Second.{secondInterleaved, secondUndone, sourceOf};
 use crate::wide;
 
 // The columns are read in their order, each downwards.
@@ -41,4 +44,31 @@ pub fn deinterleave(src: &[f32], dst: &mut [f32])
         }
         t += 1;
     }
+}
+
+// How many of n elements column c holds.
+fn height_of(n: u64, c: u64) -> u64
+    requires { ⌜ (n ≤ mostBits) × (c < 30) ⌝ }
+    ensures { λ r. ⌜ r ≡ height 30 n c ⌝ }
+{
+    (n + 29 - c) / 30
+}
+
+// From where step 8 reads what stands at index j of n: the columns are passed in their order, up to the one that holds it.
+pub fn source_at(n: u64, j: u64) -> u64
+    requires { ⌜ (j < n) × (n ≤ mostBits) ⌝ }
+    ensures { λ r. ⌜ (r ≡ sourceOf n j) × (r < n) ⌝ }
+{
+    let order = orders::columns();
+    let mut t: usize = 0;
+    let mut c = wide(order[t]) as u64;
+    let mut h = height_of(n, c);
+    let mut left = j;
+    while h <= left {
+        left -= h;
+        t += 1;
+        c = wide(order[t]) as u64;
+        h = height_of(n, c);
+    }
+    30 * left + c
 }
