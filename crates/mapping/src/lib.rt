@@ -5,7 +5,7 @@ ghost use mathlib.Core.Path.{_≡_};
 ghost use Prim.Native.Nat.{min, _+_, _-_, _≤_, _<_};
 ghost use lib.ListN.{length};
 ghost use lib.Ieee.{nan};
-ghost use Rattle.mapping.specs.Mapping.{posOf, at, slotOf, bitsOf, Slot};
+ghost use Rattle.mapping.specs.Mapping.{posOf, numberOf, filledAs, ones, at, slotOf, bitsOf, Slot};
 ghost use Rattle.mapping.specs.Strides.{turns, Reached, Steps, Least, Done, Ready};
 
 fn lesser(a: usize, b: usize) -> usize
@@ -189,4 +189,27 @@ pub fn unmap_slot(frame: &[f32], caps: &[u16], bits: &mut [f32])
         base += u;
         p += 1;
     }
+}
+
+// Which of a PhCH's u bits, counted from 0, stands at its place, counted from 1: the undoing of `spot`.
+fn rank_at(p: usize, u: usize, place: usize) -> usize
+    requires { ⌜ (0 < place) × (place ≤ u) ⌝ }
+    ensures { λ r. ⌜ (r ≡ filledAs u (p + 1) place) × (r < u) ⌝ }
+{
+    if p % 2 == 0 { place - 1 } else { u - place }
+}
+
+// The slot's bit that stands at a place of PhCH p: as many as all PhCHs have by then.
+pub fn bit_at(caps: &[u16], p: usize, place: usize) -> usize
+    requires { ⌜ (p < length (now caps)) × (length (now caps) ≤ 16) × (0 < place) × (place ≤ at (now caps) p) ⌝ }
+    ensures { λ r. ⌜ r ≡ numberOf (at (now (caps .entry))) ones (length (now (caps .entry))) p (filledAs (at (now (caps .entry)) p) (p + 1) place) ⌝ }
+{
+    let x = rank_at(p, caps[p] as usize, place);
+    let mut sum: usize = 0;
+    let mut q: usize = 0;
+    while q < caps.len() {
+        sum += lesser(caps[q] as usize, turns_had(p, x, q));
+        q += 1;
+    }
+    sum
 }
