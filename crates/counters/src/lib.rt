@@ -1,7 +1,7 @@
 // The four counters that document 002 lists apart, and the answer of a call.
 // Each counter is a type of its own, so that none is taken for another; a number is taken out of one only where a step defines it.
 ghost use mathlib.Core.Path.{_≡_};
-ghost use Prim.Native.Nat.{_-_, _%_, _≤_, _<_};
+ghost use Prim.Native.Nat.{_+_, _-_, _%_, _≤_, _<_};
 
 // The number of a bit in its channel, counted from 1.
 pub struct BitNumber(pub u32);
@@ -17,10 +17,28 @@ impl TrchNumber {
     {
         (self.0 - 1) as usize
     }
+
+    // The channel that stands at an index.
+    pub fn at(i: usize) -> TrchNumber
+        requires { ⌜ i < 8 ⌝ }
+        ensures { λ r. ⌜ r .0 ≡ i + 1 ⌝ }
+    {
+        TrchNumber((i + 1) as u32)
+    }
 }
 
 // The number of a physical channel (PhCH) in its slot, counted from 1.
 pub struct PhchNumber(pub u32);
+
+impl PhchNumber {
+    // PhCHs 1, 2, .. of a slot stand one after the other, from index 0 on.
+    pub fn index(self) -> usize
+        requires { ⌜ 0 < self .0 ⌝ }
+        ensures { λ r. ⌜ r ≡ self .0 - 1 ⌝ }
+    {
+        (self.0 - 1) as usize
+    }
+}
 
 // The frame number, 0 to 255.
 pub struct FrameNumber(pub u32);
