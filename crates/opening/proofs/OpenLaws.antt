@@ -2,9 +2,12 @@
 use mathlib.Core.Path.{_≡_, refl, sym, ap, _∙_, subst}
 use mathlib.Core.List.{List}
 use Prim.Native.Nat.{ℕ, _+_, _≤_, _<_}
+use native.Mathlib.Numerals.{add-one}
 use native.Mathlib.Omega.{arith}
 use lib.ListN.{getD, set}
 use Rattle.laws.specs.Tables.{table, upTo}
+use Rattle.laws.proofs.TestLaws.{split}
+use Rattle.laws.proofs.LeastLaws.{passes-one}
 use Rattle.laws.proofs.TableLaws.{table-set, filled-at}
 use Rattle.counters.specs.Lines.{given}
 use Rattle.counters.proofs.LineLaws.{given-yes, given-no}
@@ -19,8 +22,8 @@ use Rattle.sheet.specs.declared.SheetAnswer.{SheetAnswer}
 use Rattle.sheet.proofs.SizeLaws.{size-most}
 use Rattle.sheet.proofs.FieldLaws.{ranged-in, caps-whole}
 use Rattle.sheet.proofs.NumberLaws.{loads-zero, readable, number-read, fields-read}
-use Rattle.matching.specs.Shares.{weightOf, weightAll, cutOf, shareOf}
-use Rattle.matching.proofs.ShareLaws.{weight-heard, cut-up, cuts-at, share-most}
+use Rattle.matching.specs.Shares.{weightOf, weightAll, cutOf, shareOf, channelOf}
+use Rattle.matching.proofs.ShareLaws.{weight-heard, cut-first, cut-last, cut-up, cuts-rise, cuts-at, share-most, channel-passes}
 use Rattle.opening.specs.Opened.{sizesOf, openedOf, closed, openAnswer, Opens}
 use Rattle.opening.specs.declared.Opened.{Opened}
 use Rattle.opening.specs.declared.OpenAnswer.{OpenAnswer}
@@ -75,6 +78,47 @@ module _ (o : Opened) (h : Opens o) (i : ℕ) (l : i < o .fields .channels) wher
   cut-rises =
       let f = o .fields in
       omega (arith, low-is, high-is, cut-up (capacityAll f) (weightOf f) (f .channels) (weighs f (h .accepted)) i)
+
+-- the walk over the Z: those up to i are not above x
+pub record Under (z : List ℕ) (x i : ℕ) : Type 0 where
+  pub all : (k : ℕ) → k ≤ i → getD z k 0 ≤ x
+
+pub under-more : (z : List ℕ) (x i : ℕ) → Under z x i → getD z (i + 1) 0 ≤ x → Under z x (i + 1)
+under-more z x i u h =
+    record { all = λ k l. split k i (λ le. u .all k le) (λ lt. let e : k ≡ i + 1 = omega arith in rw e h) }
+
+module _ (o : Opened) (h : Opens o) (x : ℕ) (l : x < capacityAll (o .fields)) where
+  abbrev of : Sheet
+  of = o .fields
+
+  pub under-first : Under (o .cuts) x 0
+  under-first =
+      record {
+        all =
+            λ k m.
+            let e : k ≡ 0 = omega arith in
+            let n = low-is o h 0 (h .accepted .ranged .one) in
+            rw e (omega (arith, n, cut-first (capacityAll of) (weightOf of) (of .channels) (weighs of (h .accepted))));
+      }
+
+  -- Z_I is D, which is above x
+  pub under-inside : (i : ℕ) → Under (o .cuts) x i → i < of .channels
+  under-inside i u =
+      split (of .channels) i
+      (λ le.
+      let e = ap (λ (y : Opened). getD (y .cuts) (of .channels) 0) (h .own) ∙ cuts-at of (of .channels) (h .accepted .ranged .eight) (omega arith) in
+      absurd (omega (arith, u .all (of .channels) le, e, cut-last (capacityAll of) (weightOf of) (of .channels) (weighs of (h .accepted)))))
+      (λ lt. lt)
+
+  -- the first Z above x is the channel's
+  pub under-ends : (i : ℕ) → Under (o .cuts) x i → x < getD (o .cuts) (i + 1) 0 → i ≡ channelOf of x
+  under-ends i u b =
+      let w = weighs of (h .accepted) in
+      let m = under-inside i u in
+      let hi : x < cutOf of (i + 1) = omega (arith, high-is o h i m) in
+      sym
+      (passes-one (cutOf of) x (of .channels) (channelOf of x) i (cuts-rise (capacityAll of) (weightOf of) (of .channels) w)
+      (channel-passes of x w l) m (omega (arith, u .all i (omega arith), low-is o h i m)) (rw add-one at hi))
 
 -- the answers
 made : (n m : ℕ) (a b : Opened) → n ≡ m → a ≡ b → _≡_ {A = OpenAnswer} (record { number = n; opened = a }) (record { number = m; opened = b })

@@ -2,8 +2,9 @@
 ghost use mathlib.Core.Path.{_≡_};
 ghost use Prim.Native.Nat.{_≤_, _<_};
 ghost use Rattle.sheet.specs.Counts.{mostBits};
+ghost use Rattle.sheet.specs.Sizes.{capacityAll};
 ghost use Rattle.sheet.specs.Range.{Ranged, Accepted};
-ghost use Rattle.matching.specs.Shares.{shareOf, changeOf};
+ghost use Rattle.matching.specs.Shares.{shareOf, changeOf, channelOf};
 ghost use Rattle.matching.specs.Signed.{signedBy};
 ghost use Rattle.opening.specs.Opened.{sizesOf, openedOf, closed, openAnswer, Opens};
 use matching::shares::Change;
@@ -101,4 +102,17 @@ pub fn change(opened: Opened, i: usize) -> Change
 {
     let sizes = opened.sizes;
     difference(share(opened, i), sizes[i])
+}
+
+// Step 7: the channel, counted from 0, in whose part index x of the multiplexed frame lies.
+pub fn channel_at(opened: Opened, x: u64) -> usize
+    requires { ⌜ Opens opened × (x < capacityAll (opened .fields)) ⌝ }
+    ensures { λ r. ⌜ (r ≡ channelOf (opened .fields) x) × (r < opened .fields .channels) ⌝ }
+{
+    let z = opened.cuts;
+    let mut i: usize = 0;
+    while z[i + 1] <= x {
+        i += 1;
+    }
+    i
 }
