@@ -21,7 +21,7 @@ use sheet::count;
 use sheet::sizes::frames;
 
 // The start e, and 1 where no pattern starts: an empty channel, or d = 0.
-fn start_of(n: u64, d: Change, tti: u16, frame: FrameNumber) -> u64
+pub fn start_of(n: u64, d: Change, tti: u16, frame: FrameNumber) -> u64
     requires { ⌜ (n ≤ mostEncoded) × (d .size ≤ mostBits) × (tti ≤ mostTti) ⌝ }
     ensures { λ r. ⌜ (0 < n → 0 < d .size → r ≡ startOf n (signedBy (d .less) (d .size)) tti (frame .0)) × (r ≤ 32766) ⌝ }
 {
