@@ -79,6 +79,14 @@ module _ (o : Opened) (h : Opens o) (i : ℕ) (l : i < o .fields .channels) wher
       let f = o .fields in
       omega (arith, low-is, high-is, cut-up (capacityAll f) (weightOf f) (f .channels) (weighs f (h .accepted)) i)
 
+-- Z_I is D
+pub last-is : (o : Opened) → Opens o → getD (o .cuts) (o .fields .channels) 0 ≡ capacityAll (o .fields)
+last-is o h =
+    let f = o .fields in
+    ap (λ (x : Opened). getD (x .cuts) (f .channels) 0) (h .own)
+    ∙ cuts-at f (f .channels) (h .accepted .ranged .eight) (omega arith)
+    ∙ cut-last (capacityAll f) (weightOf f) (f .channels) (weighs f (h .accepted))
+
 -- the walk over the Z: those up to i are not above x
 pub record Under (z : List ℕ) (x i : ℕ) : Type 0 where
   pub all : (k : ℕ) → k ≤ i → getD z k 0 ≤ x
@@ -101,14 +109,9 @@ module _ (o : Opened) (h : Opens o) (x : ℕ) (l : x < capacityAll (o .fields)) 
             rw e (omega (arith, n, cut-first (capacityAll of) (weightOf of) (of .channels) (weighs of (h .accepted))));
       }
 
-  -- Z_I is D, which is above x
+  -- Z_I is above x
   pub under-inside : (i : ℕ) → Under (o .cuts) x i → i < of .channels
-  under-inside i u =
-      split (of .channels) i
-      (λ le.
-      let e = ap (λ (y : Opened). getD (y .cuts) (of .channels) 0) (h .own) ∙ cuts-at of (of .channels) (h .accepted .ranged .eight) (omega arith) in
-      absurd (omega (arith, u .all (of .channels) le, e, cut-last (capacityAll of) (weightOf of) (of .channels) (weighs of (h .accepted)))))
-      (λ lt. lt)
+  under-inside i u = split (of .channels) i (λ le. absurd (omega (arith, u .all (of .channels) le, last-is o h))) (λ lt. lt)
 
   -- the first Z above x is the channel's
   pub under-ends : (i : ℕ) → Under (o .cuts) x i → x < getD (o .cuts) (i + 1) 0 → i ≡ channelOf of x
