@@ -5,4 +5,5 @@ pub mod Contents
 pub mod Apart
 pub mod Places
 pub mod Nowhere
+pub mod ExistLaws
 pub mod Example

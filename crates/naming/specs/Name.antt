@@ -1,10 +1,10 @@
 -- The frame of labels, and the name of a place by direct calculation. Channels, slots, physical channels, places and bits of a name are counted
 -- from 1, as in the documents, copies from 0.
 use mathlib.Core.Path.{_≡_}
-use mathlib.Core.Bool.{cond}
+use mathlib.Core.Bool.{Bool, cond, _&&_}
 use mathlib.Core.List.{List}
 use Prim.Native.Nat.{ℕ, suc, _+_, _*_, _-_, _%_, _≤_, _<_}
-use lib.Dec.{eqb, ltb}
+use lib.Dec.{eqb, ltb, leb}
 use lib.ListN.{getD}
 use Rattle.laws.specs.Sums.{sumTo}
 use Rattle.laws.specs.Tables.{table}
@@ -93,6 +93,14 @@ pub record Exists (sh : Sheet) (slot phch place : ℕ) : Type 0 where
   pub phch-to : phch ≤ phchsOf sh (slot - 1)
   pub place-from : 0 < place
   pub place-to : place ≤ capacityOf sh (slot - 1) (phch - 1)
+
+-- the same as a test: each of the three is one of 1 to as many as there are
+abbrev pub among : ℕ → ℕ → Bool
+among k n = ltb 0 k && leb k n
+
+unfoldable pub hasPlace : Sheet → ℕ → ℕ → ℕ → Bool
+hasPlace sh slot phch place =
+    among slot (sh .slots) && (among phch (phchsOf sh (slot - 1)) && among place (capacityOf sh (slot - 1) (phch - 1)))
 
 -- the name's channel and bit exist
 pub record Inside (sh : Sheet) (n : Name) : Type 0 where

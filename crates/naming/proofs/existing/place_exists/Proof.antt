@@ -1,0 +1,115 @@
+use mathlib.Core.Path.{_≡_, sym, ap, _∙_}
+use mathlib.Core.Bool.{true}
+use Prim.Native.Nat.{ℕ, _+_, _*_, _-_, _≤_, _<_}
+use native.Mathlib.Omega.{arith}
+use lib.ListN.{getD}
+use Rattle.sheet.specs.Counts.{mostCodes}
+use Rattle.sheet.specs.Fields.{phchsOf}
+use Rattle.naming.specs.Name.{among}
+use Rattle.naming.proofs.ExistLaws.{among-true, asked-all, asked-phch, asked-slot}
+use borrow.Author.Needs.{needs}
+use Rattle.naming.proofs.existing.place_exists.Statement.{statement}
+use Rattle.naming.proofs.existing.place_exists.Tie as tie
+
+-- the slot exists
+module _ (c : tie.Then1) where
+  slot-asked : among (c .before .before .args .slot) (c .before .before .args .t1 .slots) ≡ true
+  slot-asked = sym (c .before .is-among .ensures) ∙ c .if1 .taken
+
+  slot-there : (0 < c .before .before .args .slot) × (c .before .before .args .slot ≤ 15)
+  slot-there =
+      let s = c .before .before in
+      omega (arith, among-true (s .args .slot) (s .args .t1 .slots) slot-asked, s .pre .fifteen)
+
+-- and the physical channel
+module _ (c : tie.Then2) where
+  phch-asked : (let s = c .before .before .before .before .before in among (s .args .phch .0) (phchsOf (s .args .t1) (s .args .slot - 1)) ≡ true)
+  phch-asked = sym (c .before .is-among2 .ensures) ∙ c .if2 .taken
+
+  phch-there : (let s = c .before .before .before .before .before in (0 < s .args .phch .0) × (s .args .phch .0 ≤ 16))
+  phch-there =
+      let t = c .before .before .before in
+      let s = t .before .before in
+      let a = among-true (s .args .slot) (s .args .t1 .slots) (slot-asked t) in
+      omega (
+        arith,
+        among-true (s .args .phch .0) (phchsOf (s .args .t1) (s .args .slot - 1)) phch-asked,
+        s .pre .phch16 (s .args .slot - 1) (omega (arith, a)),
+      )
+
+is-among-requires : tie.Need-is-among-requires
+is-among-requires c κs = search needs
+
+sub-t : tie.Need-sub-t
+sub-t c = slot-there c .0
+
+cast-t : tie.Need-cast-t
+cast-t c = search needs
+
+mul-is-among : tie.Need-mul-is-among
+mul-is-among c = search needs
+
+element-copy-out-is-among : tie.Need-element-copy-out-is-among
+element-copy-out-is-among c = omega (arith, slot-there c)
+
+is-among-requires-2 : tie.Need-is-among-requires-2
+is-among-requires-2 c κs = search needs
+
+mul-m : tie.Need-mul-m
+mul-m c = search needs
+
+index-requires : tie.Need-index-requires
+index-requires c κs = phch-there c .0
+
+add-m : tie.Need-add-m
+add-m c = search needs
+
+mul-is-among-2 : tie.Need-mul-is-among-2
+mul-is-among-2 c = search needs
+
+element-copy-out-is-among-2 : tie.Need-element-copy-out-is-among-2
+element-copy-out-is-among-2 c =
+    omega (arith, slot-there (c .before .before .before .before), phch-there (c .before), c .index .ensures)
+
+is-among-requires-3 : tie.Need-is-among-requires-3
+is-among-requires-3 c κs = search needs
+
+returns : tie.Need-returns
+returns c =
+    let i = c .before .before in
+    let t = i .before .before .before .before in
+    let a = t .before .before .args in
+    c .is-among3 .ensures
+    ∙ ap (λ (p : ℕ). among (a .place) (getD (a .t1 .caps) (mostCodes * (a .slot - 1) + p) 0)) (i .index .ensures)
+    ∙ asked-all (a .t1) (a .slot) (a .phch .0) (a .place) (slot-asked t) (phch-asked (i .before))
+
+returns-2 : tie.Need-returns-2
+returns-2 c =
+    let t = c .before .before .before in
+    let a = t .before .before .args in
+    asked-phch (a .t1) (a .slot) (a .phch .0) (a .place) (slot-asked t) (sym (c .before .is-among2 .ensures) ∙ c .if2 .left)
+
+returns-3 : tie.Need-returns-3
+returns-3 c =
+    let a = c .before .before .args in
+    asked-slot (a .t1) (a .slot) (a .phch .0) (a .place) (sym (c .before .is-among .ensures) ∙ c .if1 .left)
+
+pub place-exists-spec : {M : Type 1} → statement M
+place-exists-spec =
+    tie.close
+    (tie.spec
+    is-among-requires
+    sub-t
+    cast-t
+    mul-is-among
+    element-copy-out-is-among
+    is-among-requires-2
+    mul-m
+    index-requires
+    add-m
+    mul-is-among-2
+    element-copy-out-is-among-2
+    is-among-requires-3
+    returns
+    returns-2
+    returns-3)
