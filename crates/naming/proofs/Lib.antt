@@ -6,4 +6,5 @@ pub mod Apart
 pub mod Places
 pub mod Nowhere
 pub mod ExistLaws
+pub mod PlacingLaws
 pub mod Example

@@ -68,6 +68,17 @@ numbers-alike U W P p x same h =
     (sum-same (λ i. afterTurns U ones (x / 1) (suc p + i)) (λ i. afterTurns W ones (x / 1) (suc p + i)) (P - suc p)
     (λ i l. ap (λ (u : ℕ). min u (x / 1 * 1)) (same (suc p + i) (omega arith))))
 
+-- the slot's bit at a place, by the list of the slot's capacities
+pub bit-by-caps : (sh : Sheet) → Accepted sh → (t : ℕ) → t < sh .slots → (p place : ℕ) → p < phchsOf sh t
+    → numberOf (at (capsOf sh t)) ones (length (capsOf sh t)) p (filledAs (at (capsOf sh t) p) (p + 1) place) ≡ slotBitAt sh t p place
+unfolding slotBitAt
+bit-by-caps sh ok t l p place h =
+    let caps = capsOf sh t in
+    let x = filledAs (capacityOf sh t p) (p + 1) place in
+    ap (λ (i : ℕ). numberOf (at caps) ones (length caps) p (filledAs i (p + 1) place)) (caps-at sh t p h)
+    ∙ ap (λ (i : ℕ). numberOf (at caps) ones i p x) (caps-length sh ok t l)
+    ∙ numbers-alike (at caps) (capacityOf sh t) (phchsOf sh t) p x (caps-at sh t) h
+
 module _ (sh : Sheet) (t p place : ℕ) (h : p < phchsOf sh t) (from : 0 < place) (to : place ≤ capacityOf sh t p) where
   pub bit-below : slotBitAt sh t p place < slotCapacity sh t
   unfolding slotBitAt
@@ -83,7 +94,6 @@ module _ (sh : Sheet) (t p place : ℕ) (h : p < phchsOf sh t) (from : 0 < place
       (full : length xs ≡ capacityAll sh) where
     slot-at : getD (slotOf (capsOf sh t) (slotBits sh xs t) (slotBits sh xs t)) (sumTo (capacityOf sh t) p + (place - 1)) d
         ≡ getD (slotBits sh xs t) (slotBitAt sh t p place) d
-    unfolding slotBitAt
     slot-at =
         let caps = capsOf sh t in
         let bits = slotBits sh xs t in
@@ -91,12 +101,9 @@ module _ (sh : Sheet) (t p place : ℕ) (h : p < phchsOf sh t) (from : 0 < place
         let m = length-slot-bits sh xs full t l ∙ sym (caps-size sh ok t l) in
         let u = caps-at sh t p h in
         let s = sum-same (at caps) (capacityOf sh t) p (λ q b. caps-at sh t q (omega arith)) in
-        let x = filledAs (capacityOf sh t p) (p + 1) place in
         ap (λ (i : ℕ). getD (slotOf caps bits bits) (i + (place - 1)) d) (sym s)
         ∙ mapped-place (at caps) ones (length caps) (λ q b. omega arith) d bits bits m m p place (omega arith) from (omega arith)
-        ∙ ap (λ (i : ℕ). getD bits (numberOf (at caps) ones (length caps) p (filledAs i (p + 1) place)) d) u
-        ∙ ap (λ (i : ℕ). getD bits (numberOf (at caps) ones i p x) d) n
-        ∙ ap (λ (i : ℕ). getD bits i d) (numbers-alike (at caps) (capacityOf sh t) (phchsOf sh t) p x (caps-at sh t) h)
+        ∙ ap (λ (i : ℕ). getD bits i d) (bit-by-caps sh ok t l p place h)
 
     pub spread-at : getD (spread sh xs) (slotStart sh t + (sumTo (capacityOf sh t) p + (place - 1))) d ≡ getD (slotBits sh xs t) (slotBitAt sh t p place) d
     unfolding spread

@@ -1,0 +1,114 @@
+use native.Mathlib.Omega.{arith}
+use mathlib.Core.Path.{_≡_, ap, _∙_}
+use Prim.Native.Nat.{ℕ, _+_, _≤_, _<_}
+use lib.ListN.{getD}
+use Rattle.sheet.specs.Counts.{mostBits}
+use Rattle.sheet.specs.Sizes.{slotCapacity, capacityAll}
+use Rattle.opening.specs.Opened.{Opens}
+use Rattle.opening.specs.declared.Opened.{Opened}
+use Rattle.opening.proofs.OpenLaws.{capacity-most, last-is}
+use Rattle.frame.specs.Frame.{slotStart}
+use Rattle.frame.proofs.FrameLaws.{slot-room}
+use Rattle.naming.specs.Name.{readFrom}
+use Rattle.naming.proofs.Slots.{read-below}
+use Rattle.naming.proofs.PlacingLaws.{slot-most, read-over, read-each}
+use borrow.Author.Needs.{needs}
+use Rattle.naming.proofs.placing.read_at.Statement.{statement}
+use Rattle.naming.proofs.placing.read_at.Tie as tie
+
+-- the slot lies within the frame
+within : (s : tie.Start)
+    → (slotStart (s .args .opened .fields) (s .args .t) + slotCapacity (s .args .opened .fields) (s .args .t) ≤ mostBits)
+    × (slotStart (s .args .opened .fields) (s .args .t) + slotCapacity (s .args .opened .fields) (s .args .t) ≤ capacityAll (s .args .opened .fields))
+within s =
+    let f = s .args .opened .fields in
+    (slot-most f (s .pre .0 .accepted) (s .args .t) (s .pre .1), slot-room f (s .args .t) (s .pre .1))
+
+-- D
+all : (o : Opened) → Opens o → {n : ℕ} → n ≡ o .fields .channels → getD (o .cuts) n 0 ≡ capacityAll (o .fields)
+all o h e = ap (λ (i : ℕ). getD (o .cuts) i 0) e ∙ last-is o h
+
+-- mode 1
+each : (c : tie.After-source-at2)
+    → (let s = c .before .before .before .before .before .before in
+    (c .before .before .before .before .slot-start .result + c .source-at2 .result ≡ readFrom (s .args .opened .fields) (s .args .t) (s .args .k))
+    × (c .before .before .before .before .slot-start .result + c .source-at2 .result < capacityAll (s .args .opened .fields)))
+each c =
+    let u = c .before in
+    let b = u .before in
+    let i = b .before .before in
+    let s = i .before .before in
+    let f = s .args .opened .fields in
+    let e =
+    read-each f (s .args .t) (s .args .k) (b .if1 .left) (i .slot-start .ensures) (u .slot-capacity .ensures .0)
+    (c .source-at2 .ensures .0) in
+    (e, omega (arith, e, read-below f (s .args .t) (s .args .k) (s .pre .1) (s .pre .2)))
+
+slot-start-requires : tie.Need-slot-start-requires
+slot-start-requires c κs = search needs
+
+count-requires : tie.Need-count-requires
+count-requires c κs = search needs
+
+mul-source-at : tie.Need-mul-source-at
+mul-source-at c = search needs
+
+array-read-source-at : tie.Need-array-read-source-at
+array-read-source-at c = search needs
+
+add-source-at : tie.Need-add-source-at
+add-source-at c = let i = c .before .before .before .before in omega (arith, i .slot-start .ensures, within (i .before .before))
+
+source-at-requires : tie.Need-source-at-requires
+source-at-requires c κs =
+    let i = c .before .before .before .before in
+    let s = i .before .before in
+    let d = all (s .args .opened) (s .pre .0) (c .count .ensures .0) in
+    (omega (arith, d, i .slot-start .ensures, within s), omega (arith, d, capacity-most (s .args .opened .fields) (s .pre .0 .accepted)))
+
+returns : tie.Need-returns
+returns c =
+    let n = c .before in
+    let b = n .before .before in
+    let i = b .before .before in
+    let s = i .before .before in
+    let f = s .args .opened .fields in
+    let e =
+    read-over f (s .args .t) (s .args .k) (b .if1 .taken) (all (s .args .opened) (s .pre .0) (n .count .ensures .0))
+    (ap (λ (x : ℕ). x + s .args .k) (i .slot-start .ensures)) (c .source-at .ensures .0) in
+    (e, omega (arith, e, read-below f (s .args .t) (s .args .k) (s .pre .1) (s .pre .2)))
+
+slot-capacity-requires : tie.Need-slot-capacity-requires
+slot-capacity-requires c κs =
+    let s = c .before .before .before .before in
+    let r = s .pre .0 .accepted .ranged in
+    (omega (arith, r .fifteen), r .phch16 (s .args .t) (s .pre .1))
+
+source-at-requires-2 : tie.Need-source-at-requires-2
+source-at-requires-2 c κs =
+    let s = c .before .before .before .before .before in
+    (omega (arith, c .slot-capacity .ensures .0), omega (arith, c .slot-capacity .ensures .0, within s))
+
+add-result : tie.Need-add-result
+add-result c =
+    let s = c .before .before .before .before .before .before in
+    omega (arith, each c .1, capacity-most (s .args .opened .fields) (s .pre .0 .accepted))
+
+returns-2 : tie.Need-returns-2
+returns-2 c = each c
+
+pub read-at-spec : {M : Type 1} → statement M
+read-at-spec =
+    tie.close
+    (tie.spec
+    slot-start-requires
+    count-requires
+    mul-source-at
+    array-read-source-at
+    add-source-at
+    source-at-requires
+    returns
+    slot-capacity-requires
+    source-at-requires-2
+    add-result
+    returns-2)
