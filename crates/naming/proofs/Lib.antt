@@ -7,4 +7,5 @@ pub mod Places
 pub mod Nowhere
 pub mod ExistLaws
 pub mod PlacingLaws
+pub mod NamingLaws
 pub mod Example

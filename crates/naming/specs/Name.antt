@@ -17,6 +17,7 @@ use Rattle.pattern.specs.Closed.{sourceOf, copyOf}
 use Rattle.interleaving.specs.Second as Second
 use Rattle.mapping.specs.Mapping.{numberOf, filledAs, ones}
 use Rattle.frame.specs.Frame.{startAt, slotStart, frameOf}
+use Rattle.naming.specs.declared.PlaceName.{PlaceName}
 
 -- a bit is numbered before step 2, 1 to T_i; above E_i it is a filler
 pub record Name : Type 0 where
@@ -27,6 +28,10 @@ pub record Name : Type 0 where
 pub record Label : Type 0 where
   pub channel : ℕ
   pub bit : ℕ
+
+-- the name that an answer holds
+abbrev pub nameIn : PlaceName → Name
+nameIn r = record { channel = r .trch .0; bit = r .bit .0; copy = r .copy }
 
 -- ---- the frame of labels: each channel's bits 1 to T_i, as each step moves them
 

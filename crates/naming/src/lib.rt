@@ -1,3 +1,77 @@
 // The name of a place: which copy of which bit of which channel stands there, by direct calculation.
+ghost use mathlib.Core.Path.{_≡_};
+ghost use Prim.Native.Nat.{_+_, _*_, _%_, _≤_, _<_};
+ghost use Rattle.sheet.specs.Counts.{mostTti, mostEncoded};
+ghost use Rattle.sheet.specs.Sizes.{framesIn, capacityAll};
+ghost use Rattle.orders.specs.Orders.{columnAt};
+ghost use Rattle.opening.specs.Opened.{Opens};
+ghost use Rattle.naming.specs.Name.{nameAt, nameOf, nameIn, Exists};
+use counters::BitNumber;
+use counters::FrameNumber;
+use counters::PhchNumber;
+use counters::TrchNumber;
+use frame::multiplexing::start_of;
+use opening::Opened;
+use opening::change;
+use opening::channel_at;
+use opening::share;
+use pattern::closed::sent_at;
+use sheet::count;
+use sheet::sizes::frames;
+
 pub mod existing;
 pub mod placing;
+
+// The channel, the number of its bit before step 2, and the number of the copy, from 0.
+pub struct PlaceName {
+    pub trch: TrchNumber,
+    pub bit: BitNumber,
+    pub copy: u64,
+}
+
+// Steps 3 and 2: the number of bit m, from 0, of the frame's segment, which stands in row m of column P(n).
+fn bit_number(tti: u16, frame: FrameNumber, m: u64) -> BitNumber
+    requires { ⌜ (tti ≤ mostTti) × (m < mostEncoded) ⌝ }
+    ensures { λ r. ⌜ r .0 ≡ m * framesIn tti + columnAt tti (frame .0 % framesIn tti) + 1 ⌝ }
+{
+    let f = frames(tti);
+    let p = orders::column(count(tti), frame.within(f));
+    BitNumber((m * f + p as u64 + 1) as u32)
+}
+
+// Steps 7 to 2: the name of what stands at index x of the multiplexed frame.
+fn name_at(opened: Opened, frame: FrameNumber, x: u64) -> PlaceName
+    requires { ⌜ Opens opened × (x < capacityAll (opened .fields)) ⌝ }
+    ensures { λ r. ⌜ nameIn r ≡ nameAt (opened .fields) (frame .0) x ⌝ }
+{
+    let i = channel_at(opened, x);
+    let fields = opened.fields;
+    let sizes = opened.sizes;
+    let cuts = opened.cuts;
+    let tti = fields.tti[i];
+    let n = sizes[i];
+    let d = change(opened, i);
+    let e = start_of(n, d, tti, frame);
+    let s = sent_at(n, share(opened, i), e, d.less, d.size, x - cuts[i]);
+    let trch = TrchNumber::at(i);
+    let bit = bit_number(tti, frame, s.bit);
+    PlaceName {
+        trch,
+        bit,
+        copy: s.copy,
+    }
+}
+
+// The name of a place that exists.
+pub fn name_place(
+    opened: Opened,
+    frame: FrameNumber,
+    slot: u32,
+    phch: PhchNumber,
+    place: u32,
+) -> PlaceName
+    requires { ⌜ Opens opened × Exists (opened .fields) slot (phch .0) place ⌝ }
+    ensures { λ r. ⌜ nameIn r ≡ nameOf (opened .fields) (frame .0) slot (phch .0) place ⌝ }
+{
+    name_at(opened, frame, placing::index_at(opened, slot, phch, place))
+}
