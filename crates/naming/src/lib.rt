@@ -73,5 +73,6 @@ pub fn name_place(
     requires { ⌜ Opens opened × Exists (opened .fields) slot (phch .0) place ⌝ }
     ensures { λ r. ⌜ nameIn r ≡ nameOf (opened .fields) (frame .0) slot (phch .0) place ⌝ }
 {
-    name_at(opened, frame, placing::index_at(opened, slot, phch, place))
+    let x = placing::index_at(opened, slot, phch, place);
+    name_at(opened, frame, x)
 }
