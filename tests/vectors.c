@@ -1,9 +1,11 @@
 /*
- * vectors FILE: runs each line `CALL ARGUMENTS => ANSWER` of FILE on the library and compares everything it answers.
+ * vectors IMPLEMENTATION FILE: runs each line `CALL ARGUMENTS => ANSWER` of FILE on the library or the reference (see
+ * implementation.h) and compares everything it answers. The reference has to know every call of the file.
  *
- * A byte slice is hex; 16-bit values are four digits each; an empty slice is `-`; numbers are decimal. A slice that the
- * call writes stands among the arguments as it is before, and in the answer as it is after the call. Empty lines and
- * lines that begin with `#` say nothing. To add a call: write its run_NAME and give it a line in `calls`.
+ * A byte slice is hex; 16-bit values are four digits each; a float is eight digits, its bit pattern; an empty slice is
+ * `-`; numbers are decimal. A slice that the call writes stands among the arguments as it is before, and in the answer
+ * as it is after the call. Empty lines and lines that begin with `#` say nothing. To add a call: write its run_NAME and
+ * give it a line in `calls`.
  */
 #define _POSIX_C_SOURCE 200809L
 #include <stdarg.h>
@@ -12,7 +14,7 @@
 #include <stdlib.h>
 #include <string.h>
 
-#include "ummervia.h"
+#include "implementation.h"
 
 enum {
     GUARD = 64,        /* bytes before and behind each lent slice: a multiple of every alignment */
@@ -42,6 +44,8 @@ struct line {
     struct slice slices[MOST_SLICES];
     size_t slice_count;
 };
+
+static const struct implementation *tested;
 
 static unsigned long shown;
 
@@ -151,6 +155,16 @@ static void expect(struct line *line, const char *what, uint64_t got)
         wrong(line, "%s is %llu, expected %llu", what, (unsigned long long)got, (unsigned long long)expected);
 }
 
+/* The next word of the answer is a float by its bit pattern, so that zeros and NaNs are told apart. */
+static void expect_float(struct line *line, const char *what, float got)
+{
+    size_t count;
+    unsigned char *expected = next_values(line, sizeof got, &count);
+    if (count != 1 || memcmp(expected, &got, sizeof got) != 0)
+        wrong(line, "%s is %a, not what is expected", what, (double)got);
+    free(expected);
+}
+
 /* The next word of the answer is the slice as it is to be now. */
 static void expect_written(struct line *line, struct slice *slice)
 {
@@ -183,12 +197,19 @@ static void compare_slice(struct line *line, size_t which)
 
 /* ---- The calls ---- */
 
+static float unwritten_float(void)
+{
+    float value;
+    memcpy(&value, &UNWRITTEN, sizeof value);
+    return value;
+}
+
 static void run_read(struct line *line)
 {
     struct slice *sheet = lend(line, 1), *fields = lend(line, 2);
     uint64_t at = UNWRITTEN;
     next_arrow(line);
-    expect(line, "number", umv_sheet_read(start(sheet), sheet->count, start(fields), fields->count, &at));
+    expect(line, "number", tested->sheet_read(start(sheet), sheet->count, start(fields), fields->count, &at));
     expect(line, "at", at);
     expect_written(line, fields);
 }
@@ -198,7 +219,7 @@ static void run_length(struct line *line)
     struct slice *fields = lend(line, 2);
     uint64_t at = UNWRITTEN;
     next_arrow(line);
-    expect(line, "number", umv_sheet_length(start(fields), fields->count, &at));
+    expect(line, "number", tested->sheet_length(start(fields), fields->count, &at));
     expect(line, "at", at);
 }
 
@@ -207,7 +228,7 @@ static void run_write(struct line *line)
     struct slice *fields = lend(line, 2), *sheet = lend(line, 1);
     uint64_t at = UNWRITTEN;
     next_arrow(line);
-    expect(line, "number", umv_sheet_write(start(fields), fields->count, start(sheet), sheet->count, &at));
+    expect(line, "number", tested->sheet_write(start(fields), fields->count, start(sheet), sheet->count, &at));
     expect(line, "at", at);
     expect_written(line, sheet);
 }
@@ -217,8 +238,7 @@ static void run_sizes(struct line *line)
     struct slice *sheet = lend(line, 1);
     uint64_t channels = UNWRITTEN, slots = UNWRITTEN, contents = UNWRITTEN, capacity = UNWRITTEN, joined = UNWRITTEN;
     next_arrow(line);
-    expect(line, "number",
-           umv_sizes(start(sheet), sheet->count, &channels, &slots, &contents, &capacity, &joined));
+    expect(line, "number", tested->sizes(start(sheet), sheet->count, &channels, &slots, &contents, &capacity, &joined));
     expect(line, "channels", channels);
     expect(line, "slots", slots);
     expect(line, "contents", contents);
@@ -232,20 +252,184 @@ static void run_channel(struct line *line)
     uint32_t trch = (uint32_t)next_number(line);
     uint64_t f = UNWRITTEN, e = UNWRITTEN, n = UNWRITTEN, v = UNWRITTEN;
     next_arrow(line);
-    expect(line, "number", umv_channel(start(sheet), sheet->count, trch, &f, &e, &n, &v));
+    expect(line, "number", tested->channel(start(sheet), sheet->count, trch, &f, &e, &n, &v));
     expect(line, "F", f);
     expect(line, "E", e);
     expect(line, "N", n);
     expect(line, "V", v);
 }
 
-static const struct {
+static void run_build(struct line *line)
+{
+    struct slice *sheet = lend(line, 1);
+    uint32_t frame_number = (uint32_t)next_number(line);
+    struct slice *contents = lend(line, 1), *frame = lend(line, 1);
+    uint64_t at = UNWRITTEN;
+    next_arrow(line);
+    expect(line, "number",
+           tested->build(start(sheet), sheet->count, frame_number, start(contents), contents->count, start(frame),
+                         frame->count, &at));
+    expect(line, "at", at);
+    expect_written(line, frame);
+}
+
+static void run_multiplex(struct line *line)
+{
+    struct slice *sheet = lend(line, 1);
+    uint32_t frame_number = (uint32_t)next_number(line);
+    struct slice *contents = lend(line, 1), *multiplexed = lend(line, 1);
+    uint64_t at = UNWRITTEN;
+    next_arrow(line);
+    expect(line, "number",
+           tested->multiplex(start(sheet), sheet->count, frame_number, start(contents), contents->count,
+                             start(multiplexed), multiplexed->count, &at));
+    expect(line, "at", at);
+    expect_written(line, multiplexed);
+}
+
+static void run_spread(struct line *line)
+{
+    struct slice *sheet = lend(line, 1), *multiplexed = lend(line, 1), *frame = lend(line, 1);
+    uint64_t at = UNWRITTEN;
+    next_arrow(line);
+    expect(line, "number",
+           tested->spread(start(sheet), sheet->count, start(multiplexed), multiplexed->count, start(frame),
+                          frame->count, &at));
+    expect(line, "at", at);
+    expect_written(line, frame);
+}
+
+static void run_gather(struct line *line)
+{
+    struct slice *sheet = lend(line, 1), *frame = lend(line, 4), *multiplexed = lend(line, 4);
+    uint64_t at = UNWRITTEN;
+    next_arrow(line);
+    expect(line, "number",
+           tested->gather(start(sheet), sheet->count, start(frame), frame->count, start(multiplexed),
+                          multiplexed->count, &at));
+    expect(line, "at", at);
+    expect_written(line, multiplexed);
+}
+
+static void run_take(struct line *line)
+{
+    struct slice *sheet = lend(line, 1);
+    uint32_t frame_number = (uint32_t)next_number(line);
+    struct slice *frame = lend(line, 4), *joined = lend(line, 4);
+    uint64_t at = UNWRITTEN;
+    next_arrow(line);
+    expect(line, "number",
+           tested->take_back(start(sheet), sheet->count, frame_number, start(frame), frame->count, start(joined),
+                             joined->count, &at));
+    expect(line, "at", at);
+    expect_written(line, joined);
+}
+
+static void run_finish(struct line *line)
+{
+    struct slice *sheet = lend(line, 1);
+    uint32_t trch = (uint32_t)next_number(line);
+    struct slice *joined = lend(line, 4), *coded = lend(line, 4);
+    uint64_t at = UNWRITTEN;
+    next_arrow(line);
+    expect(line, "number",
+           tested->finish(start(sheet), sheet->count, trch, start(joined), joined->count, start(coded), coded->count,
+                          &at));
+    expect(line, "at", at);
+    expect_written(line, coded);
+}
+
+static void run_heard(struct line *line)
+{
+    struct slice *sheet = lend(line, 1);
+    uint32_t frame_number = (uint32_t)next_number(line);
+    struct slice *frame = lend(line, 4);
+    uint32_t trch = (uint32_t)next_number(line), bit = (uint32_t)next_number(line);
+    uint64_t at = UNWRITTEN, copies = UNWRITTEN;
+    float value = unwritten_float();
+    next_arrow(line);
+    expect(line, "number",
+           tested->heard(start(sheet), sheet->count, frame_number, start(frame), frame->count, trch, bit, &at, &value,
+                         &copies));
+    expect(line, "at", at);
+    expect_float(line, "value", value);
+    expect(line, "copies", copies);
+}
+
+static void run_link(struct line *line)
+{
+    struct slice *sheet = lend(line, 1);
+    uint32_t frame_number = (uint32_t)next_number(line);
+    struct slice *frame = lend(line, 4);
+    uint32_t trch = (uint32_t)next_number(line);
+    uint64_t at = UNWRITTEN, punctured = UNWRITTEN;
+    float least = unwritten_float(), greatest = unwritten_float();
+    next_arrow(line);
+    expect(line, "number",
+           tested->link(start(sheet), sheet->count, frame_number, start(frame), frame->count, trch, &at, &least,
+                        &greatest, &punctured));
+    expect(line, "at", at);
+    expect_float(line, "least", least);
+    expect_float(line, "greatest", greatest);
+    expect(line, "punctured", punctured);
+}
+
+static void run_name(struct line *line)
+{
+    struct slice *sheet = lend(line, 1);
+    uint32_t frame_number = (uint32_t)next_number(line), slot = (uint32_t)next_number(line);
+    uint32_t phch = (uint32_t)next_number(line), place = (uint32_t)next_number(line);
+    uint64_t trch = UNWRITTEN, bit = UNWRITTEN, copy = UNWRITTEN;
+    next_arrow(line);
+    expect(line, "number",
+           tested->name_of(start(sheet), sheet->count, frame_number, slot, phch, place, &trch, &bit, &copy));
+    expect(line, "TrCH", trch);
+    expect(line, "bit", bit);
+    expect(line, "copy", copy);
+}
+
+static void run_part(struct line *line)
+{
+    struct slice *sheet = lend(line, 1);
+    uint32_t trch = (uint32_t)next_number(line);
+    uint64_t multiplexed_len = next_number(line), first = UNWRITTEN, length = UNWRITTEN;
+    next_arrow(line);
+    expect(line, "number", tested->part(start(sheet), sheet->count, trch, multiplexed_len, &first, &length));
+    expect(line, "start", first);
+    expect(line, "length", length);
+}
+
+struct call {
     const char *name;
     void (*run)(struct line *);
-} calls[] = {
-    {"read", run_read},   {"length", run_length},   {"write", run_write},
-    {"sizes", run_sizes}, {"channel", run_channel},
+    bool here; /* whether the tested implementation has it */
 };
+
+/* The call of that name, with a null name if there is none. */
+static struct call call_named(const char *name)
+{
+    const struct call calls[] = {
+        {"read", run_read, tested->sheet_read},
+        {"length", run_length, tested->sheet_length},
+        {"write", run_write, tested->sheet_write},
+        {"sizes", run_sizes, tested->sizes},
+        {"channel", run_channel, tested->channel},
+        {"build", run_build, tested->build},
+        {"multiplex", run_multiplex, tested->multiplex},
+        {"spread", run_spread, tested->spread},
+        {"gather", run_gather, tested->gather},
+        {"take", run_take, tested->take_back},
+        {"finish", run_finish, tested->finish},
+        {"heard", run_heard, tested->heard},
+        {"link", run_link, tested->link},
+        {"name", run_name, tested->name_of},
+        {"part", run_part, tested->part},
+    };
+    for (size_t i = 0; i < sizeof calls / sizeof *calls; i++)
+        if (strcmp(name, calls[i].name) == 0)
+            return calls[i];
+    return (struct call){NULL, NULL, false};
+}
 
 /* ---- The file ---- */
 
@@ -290,13 +474,13 @@ static void run_line(char *text, unsigned long number)
     line.call = next_word(&line);
     if (*line.call == '\0' || *line.call == '#')
         return;
-    for (size_t i = 0; i < sizeof calls / sizeof *calls; i++)
-        if (strcmp(line.call, calls[i].name) == 0) {
-            calls[i].run(&line);
-            finish_line(&line);
-            return;
-        }
-    count_other(line.call);
+    struct call call = call_named(line.call);
+    if (!call.here) {
+        count_other(line.call);
+        return;
+    }
+    call.run(&line);
+    finish_line(&line);
 }
 
 static void print_others(void)
@@ -309,11 +493,17 @@ static void print_others(void)
     putchar('\n');
 }
 
+static const struct implementation *implementation_named(const char *name)
+{
+    return strcmp(name, library.name) == 0 ? &library : strcmp(name, reference.name) == 0 ? &reference : NULL;
+}
+
 int main(int argc, char **argv)
 {
-    FILE *file = argc == 2 ? fopen(argv[1], "r") : NULL;
-    if (file == NULL) {
-        fprintf(stderr, "vectors: %s\n", argc == 2 ? "the file cannot be opened" : "one argument, a vector file");
+    tested = argc == 3 ? implementation_named(argv[1]) : NULL;
+    FILE *file = argc == 3 ? fopen(argv[2], "r") : NULL;
+    if (tested == NULL || file == NULL) {
+        fputs("vectors: two arguments, library or reference and a vector file that can be opened\n", stderr);
         return 2;
     }
     char *text = NULL;
@@ -326,8 +516,10 @@ int main(int argc, char **argv)
     if (shown > MOST_SHOWN)
         printf("and %lu differences more\n", shown - MOST_SHOWN);
     print_others();
-    printf("vectors: %lu lines run, %lu wrong, %lu of other calls not run\n", lines_run, lines_wrong, lines_other);
+    printf("vectors: %s: %lu lines run, %lu wrong, %lu of other calls not run\n", tested->name, lines_run, lines_wrong,
+           lines_other);
     if (broken)
         fputs("vectors: the file could not be read to its end\n", stderr);
-    return broken || lines_wrong != 0 || lines_run == 0;
+    bool missing = tested == &reference && lines_other != 0;
+    return broken || missing || lines_wrong != 0 || lines_run == 0;
 }
