@@ -1,0 +1,171 @@
+/*
+ * bench IMPLEMENTATION CALL BITS MODE MATCHING TIMES [INDEX]: makes one call TIMES times, for bench/run to count.
+ *
+ * IMPLEMENTATION is library or reference; CALL is build, name or channel; BITS (244, 2440, 54000), MODE (0, 1) and
+ * MATCHING (puncturing, repetition) choose the sheet. A name is asked for the place with this INDEX in the frame, from
+ * 0.
+ */
+#include <stdio.h>
+#include <stdlib.h>
+#include <string.h>
+
+#include "../tests/implementation.h"
+
+enum { MOST = 60000, FRAME_NUMBER = 7 }; /* a frame number that is not 0 in any TTI of more than one frame */
+
+struct channel_row {
+    uint16_t tti, e, rm;
+};
+
+/* Every PhCH of a sheet has the same capacity; the channels end at the first RM of 0. */
+struct row {
+    unsigned bits;
+    const char *matching;
+    struct channel_row channels[9];
+    uint16_t phchs[16]; /* of each slot; they end at the first 0 */
+    uint16_t capacity;
+};
+
+/* One code of spreading factor 16; ten of them in three slots; a carrier with 15 codes in each of its 15 slots. */
+static const struct row rows[] = {
+    {244, "puncturing", {{1, 600, 200}}, {1}, 244},
+    {244, "repetition", {{1, 400, 200}}, {1}, 244},
+    {2440, "puncturing", {{0, 1200, 180}, {1, 2400, 200}, {2, 2400, 190}}, {4, 3, 3}, 244},
+    {2440, "repetition", {{0, 800, 180}, {1, 1600, 200}, {2, 1600, 190}}, {4, 3, 3}, 244},
+    {54000,
+     "puncturing",
+     {{0, 14500, 200}, {0, 14500, 204}, {0, 14500, 196}, {0, 14500, 200}, {1, 1600, 200}},
+     {15, 15, 15, 15, 15, 15, 15, 15, 15, 15, 15, 15, 15, 15, 15},
+     240},
+    {54000,
+     "repetition",
+     {{0, 13000, 200}, {0, 13000, 190}, {0, 13000, 210}, {1, 8000, 200}, {2, 8000, 200}},
+     {15, 15, 15, 15, 15, 15, 15, 15, 15, 15, 15, 15, 15, 15, 15},
+     240},
+};
+
+static uint8_t sheet[UMV_SHEET_MOST], contents[MOST], frame[MOST], expected[MOST];
+static size_t sheet_len, contents_len, frame_len;
+
+static void fail(const char *what)
+{
+    fprintf(stderr, "bench: %s\n", what);
+    exit(2);
+}
+
+static const struct row *row_of(const char *bits, const char *matching)
+{
+    for (size_t i = 0; i < sizeof rows / sizeof *rows; i++)
+        if (rows[i].bits == strtoul(bits, NULL, 10) && strcmp(rows[i].matching, matching) == 0)
+            return &rows[i];
+    fail("no such row");
+    return NULL;
+}
+
+static void make_sheet(const struct row *row, uint16_t mode)
+{
+    uint16_t fields[UMV_FIELDS] = {[UMV_FIELD_VERSION] = 1, [UMV_FIELD_MODE] = mode};
+    uint64_t length;
+    for (unsigned i = 0; row->channels[i].rm != 0; i++) {
+        fields[UMV_FIELD_CHANNELS]++;
+        fields[UMV_FIELD_TTI + i] = row->channels[i].tti;
+        fields[UMV_FIELD_E + i] = row->channels[i].e;
+        fields[UMV_FIELD_RM + i] = row->channels[i].rm;
+    }
+    for (unsigned t = 0; row->phchs[t] != 0; t++) {
+        fields[UMV_FIELD_SLOTS]++;
+        fields[UMV_FIELD_PHCHS + t] = row->phchs[t];
+        for (unsigned p = 0; p < row->phchs[t]; p++)
+            fields[UMV_FIELD_CAPACITIES + 16 * t + p] = row->capacity;
+    }
+    if (ref_sheet_length(fields, UMV_FIELDS, &length) != 0 ||
+        ref_sheet_write(fields, UMV_FIELDS, sheet, length, &length) != 0)
+        fail("the sheet is refused");
+    sheet_len = length;
+}
+
+/* The sheet has as many bits as the row says, and every channel is matched as it says. */
+static void check_sheet(const struct row *row)
+{
+    uint64_t channels, slots, sum, capacity, joined, f, e, n, v;
+    ref_sizes(sheet, sheet_len, &channels, &slots, &sum, &capacity, &joined);
+    if (capacity != row->bits)
+        fail("the frame has another size");
+    for (uint32_t trch = 1; trch <= channels; trch++) {
+        ref_channel(sheet, sheet_len, trch, &f, &e, &n, &v);
+        if (v == n || (v < n) != (strcmp(row->matching, "puncturing") == 0))
+            fail("a channel is matched otherwise");
+    }
+    contents_len = sum;
+    frame_len = capacity;
+}
+
+static void make_contents(void)
+{
+    uint32_t state = 1;
+    for (size_t i = 0; i < contents_len; i++) {
+        state ^= state << 13;
+        state ^= state >> 17;
+        state ^= state << 5;
+        contents[i] = state >> 16 & 1;
+    }
+}
+
+static void build(const struct implementation *measured, unsigned long times)
+{
+    uint64_t at;
+    ref_build(sheet, sheet_len, FRAME_NUMBER, contents, contents_len, expected, frame_len, &at);
+    if (measured->build == NULL)
+        fail("the call is not there");
+    for (; times > 0; times--)
+        if (measured->build(sheet, sheet_len, FRAME_NUMBER, contents, contents_len, frame, frame_len, &at) != 0)
+            fail("the build is refused");
+    if (memcmp(frame, expected, frame_len) != 0)
+        fail("the frame differs from the reference's");
+}
+
+/* All PhCHs have the same capacity, so that an index tells its PhCH by division. */
+static void name(const struct implementation *measured, const struct row *row, uint32_t index, unsigned long times)
+{
+    uint64_t trch, bit, copy, right_trch, right_bit, right_copy;
+    uint32_t slot = 0, phch = index / row->capacity, place = index % row->capacity + 1;
+    for (; row->phchs[slot] != 0 && phch >= row->phchs[slot]; slot++)
+        phch -= row->phchs[slot];
+    if (measured->name_of == NULL)
+        fail("the call is not there");
+    ref_name(sheet, sheet_len, FRAME_NUMBER, slot + 1, phch + 1, place, &right_trch, &right_bit, &right_copy);
+    for (; times > 0; times--)
+        if (measured->name_of(sheet, sheet_len, FRAME_NUMBER, slot + 1, phch + 1, place, &trch, &bit, &copy) != 0)
+            fail("the name is refused");
+    if (trch != right_trch || bit != right_bit || copy != right_copy)
+        fail("the name differs from the reference's");
+}
+
+static void channel(const struct implementation *measured, unsigned long times)
+{
+    uint64_t f, e, n, v;
+    for (; times > 0; times--)
+        if (measured->channel(sheet, sheet_len, 1, &f, &e, &n, &v) != 0)
+            fail("the channel is refused");
+}
+
+int main(int argc, char **argv)
+{
+    if (argc < 7)
+        fail("arguments are missing");
+    const struct implementation *measured = strcmp(argv[1], library.name) == 0 ? &library : &reference;
+    const struct row *row = row_of(argv[3], argv[5]);
+    unsigned long times = strtoul(argv[6], NULL, 10);
+    make_sheet(row, (uint16_t)strtoul(argv[4], NULL, 10));
+    check_sheet(row);
+    make_contents();
+    if (strcmp(argv[2], "build") == 0)
+        build(measured, times);
+    else if (strcmp(argv[2], "name") == 0 && argc == 8)
+        name(measured, row, (uint32_t)strtoul(argv[7], NULL, 10), times);
+    else if (strcmp(argv[2], "channel") == 0)
+        channel(measured, times);
+    else
+        fail("no such call");
+    return 0;
+}
