@@ -1,13 +1,16 @@
-# make run: a first look. make test: everything, as the gate runs it. make ctest: the edit loop. make clean.
+# make run: a first look. make test: everything, as the gate runs it. make ctest: the edit loop. make bench. make clean.
 
 SHELL := /bin/bash
 .SHELLFLAGS := -eu -o pipefail -c
-.PHONY: help run test ctest setup clean
+.PHONY: help run test ctest bench setup clean
 .DEFAULT_GOAL := help
 .NOTPARALLEL: # rt works with all processors by itself, and rt ci removes target/
 
 # Outside vectors, bigger than the repository's own; where the file is not there it is passed over.
 VECTORS ?= ../shared/vectors/base.txt
+
+# The repository's own vectors that the library runs; the reference runs all.
+CASES := tests/cases/sheet.txt
 
 # rt compiles for x86-64 on every machine: elsewhere such programs are linked by a cross compiler and run by qemu.
 ifeq ($(shell uname -m),x86_64)
@@ -24,6 +27,7 @@ endif
 CFLAGS := -static -O2 -std=c11 -Wall -Wextra -Werror -Iinclude
 ARCHIVE := target/staticlib/libummervia.a
 LISTER := target/bin/lister
+REFERENCE := tests/reference.c tests/reference.h tests/reference-steps.h tests/implementation.h
 SOURCES := crates.txt $(shell find crates -type f)
 
 help:
@@ -43,13 +47,22 @@ test: setup
 	@$(MAKE) --no-print-directory ctest
 	@tail -n 1 target/ci.log | grep -Ex '[0-9]+ passed, 0 failed'
 
-ctest: target/c/calls target/c/vectors target/c/sizes $(LISTER)
+ctest: target/c/calls target/c/vectors target/c/random target/c/sizes $(LISTER)
 	$(RUN) target/c/calls
-	$(RUN) target/c/vectors tests/cases/sheet.txt
-	@if [ -f '$(VECTORS)' ]; then echo '$(RUN) target/c/vectors $(VECTORS)'; $(RUN) target/c/vectors '$(VECTORS)'; \
-	else echo 'vectors: $(VECTORS) is not there: skipped'; fi
+	@run() { if [ -f "$$2" ]; then echo "$(RUN) target/c/vectors $$*"; $(RUN) target/c/vectors "$$@"; \
+	else echo "vectors: $$2 is not there: skipped"; fi; }; \
+	for file in tests/cases/*.txt '$(VECTORS)'; do run reference "$$file"; done; \
+	for file in $(CASES) '$(VECTORS)'; do run library "$$file"; done
+	$(RUN) target/c/random
 	tests/lister.sh $(RUN) $(LISTER)
 	$(RUN) target/c/sizes examples/example.sheet
+
+# Instructions, counted: the same table on every machine with these compilers. Beside what setup installs it needs qemu
+# and the machine's own gcc, for the plugin that counts.
+bench: setup target/c/bench
+	@{ command -v qemu-x86_64 && command -v gcc; } > /dev/null || { apt-get update && \
+	apt-get install -y --no-upgrade --no-install-recommends qemu-user gcc libc6-dev; }
+	@bench/run target/c/bench
 
 # Installs only what is missing: asked by linking a program and running it.
 setup:
@@ -59,11 +72,17 @@ setup:
 
 target/c/%: tests/%.c include/ummervia.h $(ARCHIVE)
 	@mkdir -p $(@D)
-	$(CC) $(CFLAGS) $< $(ARCHIVE) -o $@
+	$(CC) $(CFLAGS) $(filter %.c %.a,$^) -o $@
 
 target/c/%: examples/%.c include/ummervia.h $(ARCHIVE)
 	@mkdir -p $(@D)
-	$(CC) $(CFLAGS) $< $(ARCHIVE) -o $@
+	$(CC) $(CFLAGS) $(filter %.c %.a,$^) -o $@
+
+target/c/%: bench/%.c include/ummervia.h $(ARCHIVE)
+	@mkdir -p $(@D)
+	$(CC) $(CFLAGS) -O3 $(filter %.c %.a,$^) -o $@
+
+target/c/vectors target/c/random target/c/bench: $(REFERENCE)
 
 $(ARCHIVE): $(SOURCES)
 	rt staticlib ummervia
