@@ -1,4 +1,5 @@
 pub mod OutcomeLaws
+pub mod LookLaws
 pub mod AskLaws
 pub mod FlatLaws
 pub mod SheetLaws

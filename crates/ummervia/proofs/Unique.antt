@@ -11,6 +11,7 @@ use Rattle.writing.specs.Written.{lengthAnswer}
 use Rattle.ummervia.specs.Outcome.{Outcome}
 use Rattle.ummervia.specs.Sheets.{readInto, writeInto, lengthFrom, writeFrom}
 use Rattle.ummervia.specs.Asking.{sizesAnswer, channelAnswer}
+use Rattle.ummervia.specs.Building.{buildInto, multiplexInto, spreadInto}
 use Rattle.ummervia.specs.declared.SizesAnswer.{SizesAnswer}
 use Rattle.ummervia.specs.declared.ChannelAnswer.{ChannelAnswer}
 
@@ -33,7 +34,18 @@ sizes bytes x y = only (sizesAnswer bytes)
 pub channel : (bytes : List ℕ) (trch : ℕ) (x y : ChannelAnswer) → x ≡ channelAnswer bytes trch → y ≡ channelAnswer bytes trch → x ≡ y
 channel bytes trch x y = only (channelAnswer bytes trch)
 
--- the calls in C; umv_sizes and umv_channel leave what sizes and channel answer
+pub build : (bytes : List ℕ) (frame : ℕ) (contents old : List ℕ) (x y : Outcome ℕ)
+    → x ≡ buildInto bytes frame contents old → y ≡ buildInto bytes frame contents old → x ≡ y
+build bytes frame contents old x y = only (buildInto bytes frame contents old)
+
+pub multiplex : (bytes : List ℕ) (frame : ℕ) (contents old : List ℕ) (x y : Outcome ℕ)
+    → x ≡ multiplexInto bytes frame contents old → y ≡ multiplexInto bytes frame contents old → x ≡ y
+multiplex bytes frame contents old x y = only (multiplexInto bytes frame contents old)
+
+pub spread : (bytes bits old : List ℕ) (x y : Outcome ℕ) → x ≡ spreadInto bytes bits old → y ≡ spreadInto bytes bits old → x ≡ y
+spread bytes bits old x y = only (spreadInto bytes bits old)
+
+-- the calls in C; umv_sizes, umv_channel, umv_build, umv_multiplex and umv_spread leave what the calls in Rattle do
 pub umv-sheet-read : (bytes old : List ℕ) (x y : Outcome ℕ) → x ≡ readInto bytes old → y ≡ readInto bytes old → x ≡ y
 umv-sheet-read bytes old x y = only (readInto bytes old)
 

@@ -1,8 +1,7 @@
 -- What reading a sheet, asking for its length and writing it leave.
-use mathlib.Core.Bool.{Bool, not}
+use mathlib.Core.Bool.{Bool}
 use mathlib.Core.List.{List, [], _∷_, _++_}
 use Prim.Native.Nat.{ℕ}
-use lib.Dec.{eqb}
 use lib.ListN.{length}
 use Rattle.counters.specs.Lines.{Line, line, firstOf, answerOf}
 use Rattle.counters.specs.declared.Answer.{Answer}
@@ -14,10 +13,11 @@ use Rattle.writing.specs.Numbers.{fieldLines, writeLines, writeNumber}
 use Rattle.writing.specs.Written.{bytesOf}
 use Rattle.ummervia.specs.Outcome.{Outcome, wrote}
 use Rattle.ummervia.specs.Flat.{flatCount, flatOf, sheetFrom}
+use Rattle.ummervia.specs.Looking.{notLong}
 
 -- 11: a row of fields has not 283 numbers
 abbrev pub notFlat : ℕ → Bool
-notFlat n = not (eqb n flatCount)
+notFlat n = notLong n flatCount
 
 -- umv_sheet_read: 1 to 8, then 11 where the fields' buffer has not 283 numbers
 abbrev pub readIntoLines : List ℕ → ℕ → List Line

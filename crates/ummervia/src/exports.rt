@@ -2,15 +2,20 @@
 ghost use mathlib.Core.Path.{_≡_};
 ghost use Rattle.ummervia.specs.Outcome.{outcome};
 ghost use Rattle.ummervia.specs.Sheets.{readInto, answerMade, lengthFrom, writeFrom};
+ghost use Rattle.ummervia.specs.Building.{buildInto, multiplexInto, spreadInto};
 ghost use Rattle.ummervia.specs.Asking.{sizesMade, sizesAnswer, channelMade, channelAnswer};
 use crate::asking::channel;
 use crate::asking::sizes;
+use crate::building::build;
+use crate::building::multiplex;
+use crate::building::spread;
 use crate::flat::FLAT;
 use crate::flat::lay_sheet;
 use crate::flat::take_sheet;
 use crate::sheets::sheet_length;
 use crate::sheets::sheet_read;
 use crate::sheets::sheet_write;
+use counters::FrameNumber;
 use counters::TrchNumber;
 
 #[no_mangle]
@@ -94,5 +99,49 @@ pub extern "C" fn umv_channel(
     *e = answer.e;
     *n = answer.n;
     *v = answer.v;
+    answer.number
+}
+
+#[no_mangle]
+pub extern "C" fn umv_build(
+    bytes: &[u8],
+    frame_number: u32,
+    contents: &[u8],
+    frame: &mut [u8],
+    at: &mut u64,
+) -> u32
+    ensures { λ r. ⌜ outcome r (now (at .exit)) (now (frame .exit)) ≡ buildInto (now (bytes .entry)) «frame_number» (now (contents .entry)) (now (frame .entry)) ⌝ }
+{
+    let answer = build(bytes, FrameNumber(frame_number), contents, frame);
+    *at = answer.at;
+    answer.number
+}
+
+#[no_mangle]
+pub extern "C" fn umv_multiplex(
+    bytes: &[u8],
+    frame_number: u32,
+    contents: &[u8],
+    multiplexed: &mut [u8],
+    at: &mut u64,
+) -> u32
+    ensures { λ r. ⌜ outcome r (now (at .exit)) (now (multiplexed .exit)) ≡ multiplexInto (now (bytes .entry)) «frame_number» (now (contents .entry)) (now (multiplexed .entry)) ⌝ }
+{
+    let answer = multiplex(bytes, FrameNumber(frame_number), contents, multiplexed);
+    *at = answer.at;
+    answer.number
+}
+
+#[no_mangle]
+pub extern "C" fn umv_spread(
+    bytes: &[u8],
+    multiplexed: &[u8],
+    frame: &mut [u8],
+    at: &mut u64,
+) -> u32
+    ensures { λ r. ⌜ outcome r (now (at .exit)) (now (frame .exit)) ≡ spreadInto (now (bytes .entry)) (now (multiplexed .entry)) (now (frame .entry)) ⌝ }
+{
+    let answer = spread(bytes, multiplexed, frame);
+    *at = answer.at;
     answer.number
 }

@@ -1,7 +1,9 @@
 // The public calls: each takes all inputs, asks its refusals in the order of document 01's table, and calls what stands below.
 pub mod asking;
+pub mod building;
 pub mod exports;
 pub mod flat;
+pub mod looking;
 pub mod sheets;
 
 // The sizes that a caller lends buffers by, zeros where the number is not 0.

@@ -1,0 +1,89 @@
+// A frame is built: steps 1 to 9, or 1 to 7, or 8 and 9.
+ghost use mathlib.Core.Path.{_≡_};
+ghost use Rattle.ummervia.specs.Outcome.{outcome};
+ghost use Rattle.ummervia.specs.Building.{buildInto, multiplexInto, spreadInto};
+use crate::looking::look;
+use crate::looking::open_frame;
+use counters::Answer;
+use counters::FrameNumber;
+use frame::building::build_bits;
+use frame::multiplexing::multiplex_bits;
+use frame::spreading::spread_bits;
+use opening::open_sheet;
+use sheet::counts::MOST_BITS;
+use sheet::counts::MOST_ENCODED;
+use sheet::sizes::all_encoded;
+use sheet::sizes::capacity;
+
+// Steps 1 to 9: the frame of the contents.
+pub fn build(bytes: &[u8], frame: FrameNumber, contents: &[u8], out: &mut [u8]) -> Answer
+    ensures { λ r. ⌜ outcome (r .number) (r .at) (now (out .exit)) ≡ buildInto (now (bytes .entry)) (frame .0) (now (contents .entry)) (now (out .entry)) ⌝ }
+{
+    let answer = open_frame(bytes, frame);
+    let number = answer.number;
+    if number != 0 {
+        return Answer { number, at: 0 };
+    }
+    let opened = answer.opened;
+    let fields = opened.fields;
+    let places = capacity(fields);
+    let asked = look(contents, all_encoded(fields), out.len(), places);
+    if asked.number != 0 {
+        return asked;
+    }
+    let mut room = [0u8; MOST_BITS as usize];
+    build_bits(contents, opened, frame, &mut room, out);
+    Answer {
+        number: 0,
+        at: places,
+    }
+}
+
+// Steps 1 to 7: the multiplexed bits of the contents.
+pub fn multiplex(bytes: &[u8], frame: FrameNumber, contents: &[u8], out: &mut [u8]) -> Answer
+    ensures { λ r. ⌜ outcome (r .number) (r .at) (now (out .exit)) ≡ multiplexInto (now (bytes .entry)) (frame .0) (now (contents .entry)) (now (out .entry)) ⌝ }
+{
+    let answer = open_frame(bytes, frame);
+    let number = answer.number;
+    if number != 0 {
+        return Answer { number, at: 0 };
+    }
+    let opened = answer.opened;
+    let fields = opened.fields;
+    let places = capacity(fields);
+    let asked = look(contents, all_encoded(fields), out.len(), places);
+    if asked.number != 0 {
+        return asked;
+    }
+    let mut room = [0u8; MOST_ENCODED as usize];
+    multiplex_bits(contents, opened, frame, &mut room, out);
+    Answer {
+        number: 0,
+        at: places,
+    }
+}
+
+// Steps 8 and 9: the frame of multiplexed bits.
+pub fn spread(bytes: &[u8], bits: &[u8], out: &mut [u8]) -> Answer
+    ensures { λ r. ⌜ outcome (r .number) (r .at) (now (out .exit)) ≡ spreadInto (now (bytes .entry)) (now (bits .entry)) (now (out .entry)) ⌝ }
+{
+    let answer = open_sheet(bytes);
+    let number = answer.number;
+    if number != 0 {
+        return Answer { number, at: 0 };
+    }
+    let opened = answer.opened;
+    let fields = opened.fields;
+    let places = capacity(fields);
+    let asked = look(bits, places, out.len(), places);
+    if asked.number != 0 {
+        return asked;
+    }
+    let mut room = [0u8; MOST_BITS as usize];
+    let n = out.len();
+    spread_bits(bits, fields, &mut room[..n], out);
+    Answer {
+        number: 0,
+        at: places,
+    }
+}

@@ -1,0 +1,46 @@
+// What several calls ask first: the sheet, the frame number, the lengths, and that the bytes lent are bits.
+ghost use mathlib.Core.Path.{_≡_};
+ghost use Rattle.frame.specs.Bit.{isBit};
+ghost use Rattle.ummervia.specs.Looking.{frameLines, lookAnswer, Begun};
+use counters::Answer;
+use counters::FrameNumber;
+use frame::checking::first_bad;
+use opening::OpenAnswer;
+use opening::open_sheet;
+
+pub const LAST_FRAME: u32 = 255;
+
+// Numbers 1 to 9.
+pub fn open_frame(bytes: &[u8], frame: FrameNumber) -> OpenAnswer
+    ensures { λ r. ⌜ Begun (now (bytes .entry)) (frameLines (now (bytes .entry)) (frame .0)) r ⌝ }
+{
+    let answer = open_sheet(bytes);
+    let number = answer.number;
+    let opened = answer.opened;
+    if number == 0 {
+        if frame.0 > LAST_FRAME {
+            return OpenAnswer { number: 9, opened };
+        }
+    }
+    OpenAnswer { number, opened }
+}
+
+// Numbers 11 and 12: `needed` bits are lent, `room` places in a buffer of n.
+pub fn look(bits: &[u8], needed: u64, n: usize, room: u64) -> Answer
+    ensures { λ r. ⌜ r ≡ lookAnswer isBit (now (bits .entry)) needed n room ⌝ }
+{
+    if bits.len() as u64 != needed {
+        return Answer { number: 11, at: 0 };
+    }
+    if n as u64 != room {
+        return Answer { number: 11, at: 0 };
+    }
+    let bad = first_bad(bits);
+    if bad < bits.len() {
+        return Answer {
+            number: 12,
+            at: bad as u64,
+        };
+    }
+    Answer { number: 0, at: 0 }
+}
