@@ -127,7 +127,7 @@ unfolding sentBefore
 sent-more (pos a) N W e m r = omega (arith, copies-added a N W e m r)
 sent-more (negsuc a) N W e m r = omega (arith, copies-dropped a N W e m r, few-dropped a N W e m r, few-dropped a N W e (suc m) r)
 
-sent-sum : (d : ℤ) (N W e m : ℕ) → Rates d N W e → sumTo (copiesOf d N e) m ≡ sentBefore d N e m
+pub sent-sum : (d : ℤ) (N W e m : ℕ) → Rates d N W e → sumTo (copiesOf d N e) m ≡ sentBefore d N e m
 unfolding sumTo
 sent-sum d N W e zero r = sym (sent-none d N W e r)
 sent-sum d N W e (suc m) r = ap (λ (n : ℕ). n + copiesOf d N e m) (sent-sum d N W e m r) ∙ sym (sent-more d N W e m r)

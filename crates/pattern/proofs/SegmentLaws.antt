@@ -5,9 +5,10 @@ use mathlib.Core.List.{List, map-id}
 use Prim.Native.Nat.{ℕ, zero, suc, _+_, _*_, _≤_, _<_}
 use native.Mathlib.Omega.{arith}
 use lib.IntN.{pos, negsuc, natAbs}
+use Rattle.laws.specs.Sums.{sumTo}
 use Rattle.matching.specs.Signed.{signedBy}
-use Rattle.pattern.specs.Pattern.{walked, sharedFrom, matched, shared, asIs, Stands, Segment}
-use Rattle.pattern.proofs.MatchedLaws.{differs, started, matched-same}
+use Rattle.pattern.specs.Pattern.{walked, copiesFrom, sharedFrom, matched, copiesOf, shared, asIs, Stands, Segment}
+use Rattle.pattern.proofs.MatchedLaws.{differs, started, matched-same, sent-all, sent-sum}
 
 pub magnitude : (less : Bool) (m : ℕ) → natAbs (signedBy less m) ≡ m
 magnitude false m = refl
@@ -34,6 +35,13 @@ stands less m N W e s h = let b = begins less m N W e s h in record { above = b 
     few : (less : Bool) → Segment less m N W e → less ≡ true → 2 * m ≤ 2 * N
     few false s q = absurd (false≢true q)
     few true s q = omega (arith, sized-less m N W e s)
+
+-- the copies of all bits are the bits that come out
+pub sized-copies : (less : Bool) (m N W e : ℕ) → Segment less m N W e → 0 < m → sumTo (copiesFrom less (2 * N) (2 * m) e) N ≡ W
+unfolding copiesOf
+sized-copies false m N W e s h = sent-sum (pos m) N W e N (s .rates) ∙ sent-all (pos m) N W e (s .rates)
+sized-copies true zero N W e s h = absurd (omega arith)
+sized-copies true (suc a) N W e s h = sent-sum (negsuc a) N W e N (s .rates) ∙ sent-all (negsuc a) N W e (s .rates)
 
 -- the walk itself
 pub matched-by : {A B : Type 0} (f : A → ℕ → B) (less : Bool) (m N e : ℕ) (xs : List A) → 0 < m

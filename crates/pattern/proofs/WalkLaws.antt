@@ -16,7 +16,7 @@ use Rattle.pattern.specs.Pattern.{again, grown, copiesAt, after, walked,
 use Rattle.pattern.proofs.CountLaws.{again-more, grown-yes, grown-no}
 
 -- the first bit taken apart
-first-apart : (less : Bool) (P D e m : ℕ)
+pub first-apart : (less : Bool) (P D e m : ℕ)
     → sumTo (copiesFrom less P D e) (suc m) ≡ copiesAt less P D e + sumTo (copiesFrom less P D (after less P D e)) m
 unfolding copiesFrom
 first-apart less P D e m = sum-shift (copiesFrom less P D e) m

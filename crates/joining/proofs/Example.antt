@@ -1,0 +1,49 @@
+-- Values of document 01, computed: N = 6 and e = 1, sent as D = 8 and as D = 4 values; and the order and the rounding of three copies.
+use mathlib.Core.Path.{_≡_, refl}
+use mathlib.Core.Bool.{true, false}
+use mathlib.Core.List.{List, [], _∷_}
+use Prim.Native.Nat.{ℕ}
+use lib.Count.{trailingZeros}
+use lib.IntN.{pos, negsuc}
+use lib.Ieee.{Float, fin, span, climb, size, odd, units, round, sum, add}
+use Rattle.pattern.specs.Pattern.{again, grown, sharedFrom, shared}
+use Rattle.joining.specs.declared.Heard.the-variants.{Nothing, Once, Joined}
+use Rattle.joining.specs.Joining.{joinOf, plusZero, valueOf, heardOf, homeOf}
+
+-- 1, 2.5, 3, 3.5 and -0.0; 2^24, above which a float has no odd number, and the next above it
+abbrev one : Float
+one = fin false 1 (pos 0)
+
+abbrev twoHalf : Float
+twoHalf = fin false 5 (negsuc 0)
+
+abbrev three : Float
+three = fin false 3 (pos 0)
+
+abbrev threeHalf : Float
+threeHalf = fin false 7 (negsuc 0)
+
+abbrev minusZero : Float
+minusZero = fin true 0 (pos 0)
+
+abbrev wide : Float
+wide = fin false 1 (pos 24)
+
+abbrev wider : Float
+wider = fin false 8388609 (pos 1)
+
+-- sent are 1,1,2,3,4,4,5,6: the first and the fourth bit are joined, and a lone -0.0 stays
+pub repeated-home : heardOf (pos 2) 6 1 (one ∷ twoHalf ∷ minusZero ∷ three ∷ minusZero ∷ minusZero ∷ one ∷ three ∷ [])
+    ≡ Joined threeHalf 2 ∷ Once minusZero ∷ Once three ∷ Joined minusZero 2 ∷ Once one ∷ Once three ∷ []
+unfolding trailingZeros span climb size odd units round sum add again grown sharedFrom shared joinOf heardOf
+repeated-home = refl
+
+-- bits 1 and 4 are dropped
+pub punctured-home : homeOf (negsuc 1) 6 1 (one ∷ minusZero ∷ twoHalf ∷ three ∷ []) ≡ plusZero ∷ one ∷ minusZero ∷ plusZero ∷ twoHalf ∷ three ∷ []
+unfolding again grown sharedFrom shared joinOf valueOf heardOf homeOf
+punctured-home = refl
+
+-- one bit sent three times: 2^24 + 1 is rounded to 2^24, twice; 1 + 1 + 2^24 is exact
+pub order-home : (homeOf (pos 2) 1 1 (wide ∷ one ∷ one ∷ []) ≡ wide ∷ []) × (homeOf (pos 2) 1 1 (one ∷ one ∷ wide ∷ []) ≡ wider ∷ [])
+unfolding trailingZeros span climb size odd units round sum add again grown sharedFrom shared joinOf valueOf heardOf homeOf
+order-home = (refl, refl)

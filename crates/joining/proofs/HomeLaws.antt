@@ -1,0 +1,68 @@
+-- Laws of step 6's way back: how long it is, what each position gets, and the segment as it was sent.
+use mathlib.Core.Path.{_≡_, refl, ap, _∙_}
+use mathlib.Core.Bool.{Bool, true, false}
+use mathlib.Core.List.{List, [], _∷_, map}
+use Prim.Native.Nat.{ℕ, zero, suc, _+_, _*_, _-_, _≤_, _<_}
+use native.Mathlib.Omega.{arith}
+use lib.IntN.{ℤ, pos}
+use lib.ListN.{length, getD, take, drop, length-map}
+use lib.Ieee.{Float}
+use Rattle.laws.specs.Tables.{table}
+use Rattle.matching.specs.Signed.{signedBy}
+use Rattle.pattern.specs.Pattern.{again, grown, after, copiesAt, sharedFrom, shared, matched, copiesOf, Rates}
+use Rattle.pattern.specs.Closed.{sentBefore}
+use Rattle.pattern.proofs.MatchedLaws.{length-shared, shared-at, shared-matched}
+use Rattle.pattern.proofs.SegmentLaws.{shared-by}
+use Rattle.joining.specs.declared.Heard.{Heard}
+use Rattle.joining.specs.Joining.{joinOf, valueOf, heardOf, homeOf}
+
+-- the values that bits get by their shares of the values sent
+abbrev pub homes : List (List Float) → List Float
+homes ls = map valueOf (map joinOf ls)
+
+-- one value for each bit
+pub length-home : (d : ℤ) (N e : ℕ) (vs : List Float) → length (homeOf d N e vs) ≡ N
+unfolding heardOf homeOf
+length-home d N e vs = simp length-map (length-shared d N e vs)
+
+homes-at : (ls : List (List Float)) (j : ℕ) (z : Float) → j < length ls → getD (homes ls) j z ≡ valueOf (joinOf (getD ls j []))
+homes-at [] j z h = absurd (omega arith)
+homes-at (l ∷ ls) zero z h = refl
+homes-at (l ∷ ls) (suc j) z h = homes-at ls j z (omega arith)
+
+shared-home : (d : ℤ) (N e j : ℕ) (vs : List Float) (z : Float) → j < N → getD (homeOf d N e vs) j z ≡ valueOf (joinOf (getD (shared d N e vs) j []))
+unfolding heardOf homeOf
+shared-home d N e j vs z h = homes-at (shared d N e vs) j z (omega (arith, length-shared d N e vs))
+
+-- bit j, from 0, gets the joined values of its own copies, which stand together
+pub home-at : (d : ℤ) (N W e j : ℕ) (vs : List Float) (z : Float) → Rates d N W e → j < N
+    → getD (homeOf d N e vs) j z ≡ valueOf (joinOf (take (copiesOf d N e j) (drop (sentBefore d N e j) vs)))
+home-at d N W e j vs z r h = shared-home d N e j vs z h ∙ ap (λ (l : List Float). valueOf (joinOf l)) (shared-at d N W e j vs r h)
+
+-- where copy c of x came as f x c, it gets the join of f x 0, f x 1, .. of its own x
+pub home-matched : {A : Type 0} (f : A → ℕ → Float) (d : ℤ) (e j : ℕ) (xs : List A) (a : A) (z : Float) → j < length xs
+    → getD (homeOf d (length xs) e (matched f d (length xs) e xs)) j z ≡ valueOf (joinOf (table (f (getD xs j a)) 0 (copiesOf d (length xs) e j)))
+home-matched f d e j xs a z h =
+    shared-home d (length xs) e j (matched f d (length xs) e xs) z h
+    ∙ ap (λ (l : List Float). valueOf (joinOf l)) (shared-matched f d e j xs a h)
+
+-- ---- by a sign and a magnitude
+
+-- d is not 0
+pub home-by : (less : Bool) (m N e : ℕ) (vs : List Float) → 0 < m → homeOf (signedBy less m) N e vs ≡ homes (sharedFrom less (2 * N) (2 * m) e N vs)
+unfolding heardOf homeOf
+home-by less m N e vs h = ap homes (shared-by less m N e vs h)
+
+-- d = 0: the values as they are
+each-once : (P e n : ℕ) (vs : List Float) → length vs ≡ n → homes (sharedFrom false P 0 e n vs) ≡ vs
+unfolding again grown sharedFrom joinOf valueOf
+each-once P e zero [] h = refl
+each-once P e zero (v ∷ vs) h = absurd (omega arith)
+each-once P e (suc n) [] h = absurd (omega arith)
+each-once P e (suc n) (v ∷ vs) h = ap (λ (l : List Float). v ∷ l) (each-once P (after false P 0 e) n vs (omega arith))
+
+pub home-same : (less : Bool) (m N e : ℕ) (vs : List Float) → m ≡ 0 → length vs ≡ N → homeOf (signedBy less m) N e vs ≡ vs
+unfolding shared heardOf homeOf
+home-same false zero N e vs z h = each-once (2 * N) e N vs h
+home-same true zero N e vs z h = each-once (2 * N) e N vs h
+home-same less (suc a) N e vs z h = absurd (omega arith)

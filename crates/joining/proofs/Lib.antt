@@ -1,0 +1,4 @@
+pub mod JoinLaws
+pub mod HomeLaws
+pub mod FillLaws
+pub mod Example

@@ -1,0 +1,124 @@
+use denote.Ref.{now}
+use mathlib.Core.Path.{sym, ap, _∙_}
+use mathlib.Core.Logic.{⊎-elim}
+use Prim.Native.Nat.{_-_}
+use native.Mathlib.Omega.{arith}
+use borrow.Author.Needs.{needs}
+use mathlib.Core.List.{List}
+use lib.ListN.{length, set}
+use lib.Ieee.{Float, ofBits}
+use Rattle.joining.specs.Joining.{valueOf}
+use Rattle.joining.proofs.FillLaws.{Filling, fill-start, fill-room, fill-turn, fill-end}
+use Rattle.joining.proofs.filling.fill.Statement.{statement}
+use Rattle.joining.proofs.filling.fill.Tie as tie
+
+abbrev Inv-loop : tie.InvT-loop
+Inv-loop values segment₀ start less m p q e₀ k₀ i₀ segment e k i = Filling less m start values segment₀ segment e k i
+
+abbrev μ-loop : tie.MeasureT-loop
+μ-loop values segment₀ start less m p q e₀ k₀ i₀ segment e k i = length segment₀ - i
+
+mul-p : tie.Need-mul-p Inv-loop μ-loop
+mul-p c = omega (arith, c .before .before .pre .0 .few)
+
+mul-q : tie.Need-mul-q Inv-loop μ-loop
+mul-q c = omega (arith, c .before .before .pre .0 .most)
+
+loop-holds : tie.Need-loop-holds Inv-loop μ-loop
+loop-holds c =
+    let u = c .before .before in
+    let a = u .args in
+    fill-start (a .less) (a .m) (a .start) (now (a .values)) (now (a .segment)) (u .pre .0) (u .pre .1)
+
+turn-requires : tie.Need-turn-requires Inv-loop μ-loop
+turn-requires c κs =
+    let l = c .before .loop in
+    (l .inv .place .here, omega arith, omega arith)
+
+hear-at-requires : tie.Need-hear-at-requires Inv-loop μ-loop
+hear-at-requires c κs =
+    let l = c .before .before .loop in
+    omega (arith, fill-room (l .inv) (omega arith), c .turn .ensures .0)
+
+enum-told : tie.Need-enum-told Inv-loop μ-loop
+enum-told c = search needs
+
+mul-segment : tie.Need-mul-segment Inv-loop μ-loop
+mul-segment c = omega arith
+
+slice-write-segment : tie.Need-slice-write-segment Inv-loop μ-loop
+slice-write-segment c = omega arith
+
+enum-known-h : tie.Need-enum-known-h Inv-loop μ-loop
+enum-known-h c = search needs
+
+mul-segment-2 : tie.Need-mul-segment-2 Inv-loop μ-loop
+mul-segment-2 c = omega arith
+
+slice-write-segment-2 : tie.Need-slice-write-segment-2 Inv-loop μ-loop
+slice-write-segment-2 c = omega arith
+
+enum-known-h-2 : tie.Need-enum-known-h-2 Inv-loop μ-loop
+enum-known-h-2 c = search needs
+
+mul-segment-3 : tie.Need-mul-segment-3 Inv-loop μ-loop
+mul-segment-3 c = omega arith
+
+slice-write-segment-3 : tie.Need-slice-write-segment-3 Inv-loop μ-loop
+slice-write-segment-3 c = omega arith
+
+add-k : tie.Need-add-k Inv-loop μ-loop
+add-k c =
+    let l = c .before .before .before .before .loop in
+    omega (arith, fill-room (l .inv) (omega arith), c .before .before .turn .ensures .0)
+
+add-i : tie.Need-add-i Inv-loop μ-loop
+add-i c = omega arith
+
+loop-less : tie.Need-loop-less Inv-loop μ-loop
+loop-less c = let l = c .before .before .before .before .loop in omega arith
+
+loop-again : tie.Need-loop-again Inv-loop μ-loop
+unfolding ofBits valueOf
+loop-again c =
+    let l = c .before .before .before .before .loop in
+    let t = c .before .before .turn in
+    let put : Float → List Float = λ v. set (l .segment) (l .i) v in
+    fill-turn (l .inv) (omega arith) (t .ensures .0) (t .ensures .1) (c .before .hear-at .ensures)
+    (⊎-elim
+    (λ w. w .2 ∙ ap put (sym (ap valueOf (w .1 .given .1))))
+    (λ u. ⊎-elim (λ w. w .3 ∙ ap put (sym (ap valueOf (w .1 .given .1)))) (λ w. w .3 ∙ ap put (sym (ap valueOf (w .1 .given .1)))) u)
+    (c .match .came))
+
+same-length : tie.Need-same-length Inv-loop μ-loop
+same-length c = c .before .loop .inv .todo .long
+
+returns : tie.Need-returns Inv-loop μ-loop
+returns c = let l = c .before .loop in fill-end (l .inv) (omega arith)
+
+pub fill-spec : {M : Type 1} → statement M
+fill-spec =
+    tie.close
+    (tie.spec
+    Inv-loop
+    μ-loop
+    mul-p
+    mul-q
+    loop-holds
+    turn-requires
+    hear-at-requires
+    enum-told
+    mul-segment
+    slice-write-segment
+    enum-known-h
+    mul-segment-2
+    slice-write-segment-2
+    enum-known-h-2
+    mul-segment-3
+    slice-write-segment-3
+    add-k
+    add-i
+    loop-less
+    loop-again
+    same-length
+    returns)

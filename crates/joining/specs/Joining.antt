@@ -1,0 +1,32 @@
+-- Soft values joined: what was heard of one bit, the value that it gets, and step 6's way back over a segment.
+use mathlib.Core.Bool.{false}
+use mathlib.Core.List.{List, [], _∷_, foldl, map}
+use Prim.Native.Nat.{ℕ}
+use lib.IntN.{ℤ, pos}
+use lib.ListN.{length}
+use lib.Ieee.{Float, fin, binary32, add}
+use Rattle.pattern.specs.Pattern.{shared}
+use Rattle.joining.specs.declared.Heard.{Heard}
+use Rattle.joining.specs.declared.Heard.the-variants.{Nothing, Once, Joined}
+
+-- "A bit sent once keeps its value bit for bit. Copies are added in the order copy 0, 1, 2, .., each sum rounded once": from copy 0 on, never from zero
+unfoldable pub joinOf : List Float → Heard
+joinOf [] = Nothing
+joinOf (x ∷ []) = Once x
+joinOf (x ∷ (y ∷ ys)) = Joined (foldl (add binary32) x (y ∷ ys)) (length (x ∷ (y ∷ ys)))
+
+abbrev pub plusZero : Float
+plusZero = fin false 0 (pos 0)
+
+-- "A punctured bit gets +0.0."
+unfoldable pub valueOf : Heard → Float
+valueOf Nothing = plusZero
+valueOf (Once x) = x
+valueOf (Joined x n) = x
+
+-- of a segment of N bits, by d and the start e, and the values sent: what was heard of each bit, and the value that each gets
+unfoldable pub heardOf : ℤ → ℕ → ℕ → List Float → List Heard
+heardOf d N e vs = map joinOf (shared d N e vs)
+
+unfoldable pub homeOf : ℤ → ℕ → ℕ → List Float → List Float
+homeOf d N e vs = map valueOf (heardOf d N e vs)

@@ -1,0 +1,65 @@
+// A segment of joined values, from the values that were sent of it.
+ghost use mathlib.Core.Path.{_≡_};
+ghost use Prim.Native.Nat.{_<_};
+ghost use lib.ListN.{length};
+ghost use Rattle.matching.specs.Signed.{signedBy};
+ghost use Rattle.pattern.specs.Pattern.{Segment};
+ghost use Rattle.joining.specs.Joining.{homeOf};
+use crate::Heard;
+use crate::hearing::hear_at;
+use crate::walking::turn;
+
+// d = 0: the values as they are.
+fn copy_values(values: &[f32], segment: &mut [f32])
+    requires { ⌜ length (now segment) ≡ length (now values) ⌝ }
+    ensures { λ _. ⌜ now (segment .exit) ≡ now (values .entry) ⌝ }
+{
+    let mut i: usize = 0;
+    while i < values.len() {
+        segment[i] = values[i];
+        i += 1;
+    }
+}
+
+// d is not 0: each bit takes its next copies.
+fn fill(values: &[f32], segment: &mut [f32], start: usize, less: bool, m: usize)
+    requires { ⌜ Segment less m (length (now segment)) (length (now values)) start × (0 < m) ⌝ }
+    ensures { λ _. ⌜ now (segment .exit) ≡ homeOf (signedBy less m) (length (now (segment .entry))) start (now (values .entry)) ⌝ }
+{
+    let p = 2 * segment.len();
+    let q = 2 * m;
+    let mut e = start;
+    let mut k: usize = 0;
+    let mut i: usize = 0;
+    while i < segment.len() {
+        let t = turn(less, p, q, e);
+        let c = t.copies;
+        let h = hear_at(values, k, c);
+        match h {
+            Heard::Nothing => {
+                segment[i] = 0.0;
+            }
+            Heard::Once(x) => {
+                segment[i] = x;
+            }
+            Heard::Joined(x, _) => {
+                segment[i] = x;
+            }
+        }
+        e = t.e;
+        k += c;
+        i += 1;
+    }
+}
+
+// The joined values of a segment, all of it, by d (its sign and its magnitude m) and the start e; `values` are those sent, in order.
+pub fn join_segment(values: &[f32], segment: &mut [f32], e: usize, less: bool, m: usize)
+    requires { ⌜ Segment less m (length (now segment)) (length (now values)) e ⌝ }
+    ensures { λ _. ⌜ now (segment .exit) ≡ homeOf (signedBy less m) (length (now (segment .entry))) e (now (values .entry)) ⌝ }
+{
+    if m == 0 {
+        copy_values(values, segment);
+    } else {
+        fill(values, segment, e, less, m);
+    }
+}
