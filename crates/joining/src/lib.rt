@@ -1,4 +1,5 @@
 // Coming home: soft values joined, and step 6's way back.
+pub mod checking;
 pub mod filling;
 pub mod hearing;
 mod walking;

@@ -1,0 +1,22 @@
+-- Number 12 of soft values: "not from -65,536 to 65,536, both allowed (a NaN is not)".
+use mathlib.Core.Bool.{Bool, true, false, _&&_}
+use mathlib.Core.List.{List}
+use Prim.Native.Nat.{ℕ}
+use lib.IntN.{pos}
+use lib.Ieee.{Float, fin, le}
+use Rattle.laws.specs.FirstFail.{firstFail}
+
+-- 65,536 is 2^16
+abbrev pub highest : Float
+highest = fin false 1 (pos 16)
+
+abbrev pub lowest : Float
+lowest = fin true 1 (pos 16)
+
+-- no comparison holds of a NaN
+abbrev pub inRange : Float → Bool
+inRange x = le lowest x && le x highest
+
+-- the index of the first value out of range, and the length where there is none
+abbrev pub firstOut : List Float → ℕ
+firstOut vs = firstFail inRange vs
