@@ -39,7 +39,8 @@ unfolding trailingZeros span climb size odd units round sum add again grown shar
 repeated-home = refl
 
 -- bits 1 and 4 are dropped
-pub punctured-home : homeOf (negsuc 1) 6 1 (one ∷ minusZero ∷ twoHalf ∷ three ∷ []) ≡ plusZero ∷ one ∷ minusZero ∷ plusZero ∷ twoHalf ∷ three ∷ []
+pub punctured-home : homeOf (negsuc 1) 6 1 (one ∷ minusZero ∷ twoHalf ∷ three ∷ [])
+    ≡ plusZero ∷ one ∷ minusZero ∷ plusZero ∷ twoHalf ∷ three ∷ []
 unfolding again grown sharedFrom shared joinOf valueOf heardOf homeOf
 punctured-home = refl
 

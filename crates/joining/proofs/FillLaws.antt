@@ -26,7 +26,8 @@ pub record Place (less : Bool) (N m : ℕ) (vs : List Float) (e k left : ℕ) : 
   pub rest : k + sumTo (copiesFrom less (2 * N) (2 * m) e) left ≡ length vs
 
 pub place-start : (less : Bool) (N m e : ℕ) (vs : List Float) → Segment less m N (length vs) e → 0 < m → Place less N m vs e 0 N
-place-start less N m e vs s h = record { here = stands less m N (length vs) e s h; rest = omega (arith, sized-copies less m N (length vs) e s h) }
+place-start less N m e vs s h =
+    let w = length vs in record { here = stands less m N w e s h; rest = omega (arith, sized-copies less m N w e s h) }
 
 module _ {less : Bool} {N m : ℕ} {vs : List Float} {e k left : ℕ} (p : Place less N m vs e k left) (h : 0 < left) where
   next : k + (copiesAt less (2 * N) (2 * m) e + sumTo (copiesFrom less (2 * N) (2 * m) (after less (2 * N) (2 * m) e)) (left - 1)) ≡ length vs
@@ -66,7 +67,8 @@ fill-start less m start vs old s h =
     }
 
 shared-turn : (less : Bool) (P D e n : ℕ) (vs : List Float) → 0 < n
-    → sharedFrom less P D e n vs ≡ take (copiesAt less P D e) vs ∷ sharedFrom less P D (after less P D e) (n - 1) (drop (copiesAt less P D e) vs)
+    → sharedFrom less P D e n vs
+    ≡ take (copiesAt less P D e) vs ∷ sharedFrom less P D (after less P D e) (n - 1) (drop (copiesAt less P D e) vs)
 unfolding sharedFrom
 shared-turn less P D e zero vs h = absurd (omega arith)
 shared-turn less P D e (suc n) vs h = let q : suc n - 1 ≡ n = omega arith in rw q

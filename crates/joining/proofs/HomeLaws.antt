@@ -1,17 +1,20 @@
 -- Laws of step 6's way back: how long it is, what each position gets, and the segment as it was sent.
-use mathlib.Core.Path.{_≡_, refl, ap, _∙_}
+use mathlib.Core.Path.{_≡_, refl, sym, ap, _∙_}
 use mathlib.Core.Bool.{Bool, true, false}
 use mathlib.Core.List.{List, [], _∷_, map}
 use Prim.Native.Nat.{ℕ, zero, suc, _+_, _*_, _-_, _≤_, _<_}
+use native.Mathlib.Numerals.{add-one}
 use native.Mathlib.Omega.{arith}
 use lib.IntN.{ℤ, pos}
 use lib.ListN.{length, getD, take, drop, length-map}
 use lib.Ieee.{Float}
 use Rattle.laws.specs.Tables.{table}
+use Rattle.laws.proofs.LeastLaws.{rises}
 use Rattle.matching.specs.Signed.{signedBy}
 use Rattle.pattern.specs.Pattern.{again, grown, after, copiesAt, sharedFrom, shared, matched, copiesOf, Rates}
 use Rattle.pattern.specs.Closed.{sentBefore}
-use Rattle.pattern.proofs.MatchedLaws.{length-shared, shared-at, shared-matched}
+use Rattle.pattern.proofs.MatchedLaws.{sent-all, sent-more, length-shared, shared-at, shared-matched}
+use Rattle.pattern.proofs.SourceLaws.{sent-up}
 use Rattle.pattern.proofs.SegmentLaws.{shared-by}
 use Rattle.joining.specs.declared.Heard.{Heard}
 use Rattle.joining.specs.Joining.{joinOf, valueOf, heardOf, homeOf}
@@ -30,7 +33,8 @@ homes-at [] j z h = absurd (omega arith)
 homes-at (l ∷ ls) zero z h = refl
 homes-at (l ∷ ls) (suc j) z h = homes-at ls j z (omega arith)
 
-shared-home : (d : ℤ) (N e j : ℕ) (vs : List Float) (z : Float) → j < N → getD (homeOf d N e vs) j z ≡ valueOf (joinOf (getD (shared d N e vs) j []))
+shared-home : (d : ℤ) (N e j : ℕ) (vs : List Float) (z : Float) → j < N
+    → getD (homeOf d N e vs) j z ≡ valueOf (joinOf (getD (shared d N e vs) j []))
 unfolding heardOf homeOf
 shared-home d N e j vs z h = homes-at (shared d N e vs) j z (omega (arith, length-shared d N e vs))
 
@@ -41,15 +45,35 @@ home-at d N W e j vs z r h = shared-home d N e j vs z h ∙ ap (λ (l : List Flo
 
 -- where copy c of x came as f x c, it gets the join of f x 0, f x 1, .. of its own x
 pub home-matched : {A : Type 0} (f : A → ℕ → Float) (d : ℤ) (e j : ℕ) (xs : List A) (a : A) (z : Float) → j < length xs
-    → getD (homeOf d (length xs) e (matched f d (length xs) e xs)) j z ≡ valueOf (joinOf (table (f (getD xs j a)) 0 (copiesOf d (length xs) e j)))
+    → getD (homeOf d (length xs) e (matched f d (length xs) e xs)) j z
+    ≡ valueOf (joinOf (table (f (getD xs j a)) 0 (copiesOf d (length xs) e j)))
 home-matched f d e j xs a z h =
     shared-home d (length xs) e j (matched f d (length xs) e xs) z h
     ∙ ap (λ (l : List Float). valueOf (joinOf l)) (shared-matched f d e j xs a h)
 
+-- bit j by itself, its values found without a walk: those from a up to b
+pub record Alone (d : ℤ) (N e j : ℕ) (vs : List Float) (a b : ℕ) : Type 0 where
+  pub order : a ≤ b
+  pub within : b ≤ length vs
+  pub joined : joinOf (take (b - a) (drop a vs)) ≡ joinOf (getD (shared d N e vs) j [])
+
+pub heard-alone : (d : ℤ) (N e j : ℕ) (vs : List Float) {a b : ℕ} → Rates d N (length vs) e → j < N → a ≡ sentBefore d N e j
+    → b ≡ sentBefore d N e (j + 1) → Alone d N e j vs a b
+heard-alone d N e j vs {a} {b} r h qa qb =
+    let more : b ≡ a + copiesOf d N e j = rw add-one at qb ∙ sent-more d N (length vs) e j r ∙ ap (λ (n : ℕ). n + copiesOf d N e j) (sym qa) in
+    let last = rises (sentBefore d N e) N (λ k l. sent-up d N (length vs) e k r) (j + 1) N (omega arith) (omega arith) in
+    let c : b - a ≡ copiesOf d N e j = omega arith in
+    record {
+      order = omega arith;
+      within = omega (arith, last, sent-all d N (length vs) e r);
+      joined = rw (c, qa) (ap joinOf (sym (shared-at d N (length vs) e j vs r h)));
+    }
+
 -- ---- by a sign and a magnitude
 
 -- d is not 0
-pub home-by : (less : Bool) (m N e : ℕ) (vs : List Float) → 0 < m → homeOf (signedBy less m) N e vs ≡ homes (sharedFrom less (2 * N) (2 * m) e N vs)
+pub home-by : (less : Bool) (m N e : ℕ) (vs : List Float) → 0 < m
+    → homeOf (signedBy less m) N e vs ≡ homes (sharedFrom less (2 * N) (2 * m) e N vs)
 unfolding heardOf homeOf
 home-by less m N e vs h = ap homes (shared-by less m N e vs h)
 

@@ -9,7 +9,8 @@ use Rattle.pattern.specs.Pattern.{shared}
 use Rattle.joining.specs.declared.Heard.{Heard}
 use Rattle.joining.specs.declared.Heard.the-variants.{Nothing, Once, Joined}
 
--- "A bit sent once keeps its value bit for bit. Copies are added in the order copy 0, 1, 2, .., each sum rounded once": from copy 0 on, never from zero
+-- "A bit sent once keeps its value bit for bit. Copies are added in the order copy 0, 1, 2, .., each sum rounded once": the sum starts from
+-- copy 0 itself, never from zero, which would turn a lone -0.0 into +0.0
 unfoldable pub joinOf : List Float → Heard
 joinOf [] = Nothing
 joinOf (x ∷ []) = Once x

@@ -2,12 +2,13 @@
 use mathlib.Core.Path.{_≡_, refl, _∙_}
 use mathlib.Core.Bool.{Bool, true, false, false≢true}
 use mathlib.Core.List.{List, map-id}
-use Prim.Native.Nat.{ℕ, zero, suc, _+_, _*_, _≤_, _<_}
+use Prim.Native.Nat.{ℕ, zero, suc, _+_, _*_, _-_, _≤_, _<_}
 use native.Mathlib.Omega.{arith}
 use lib.IntN.{pos, negsuc, natAbs}
 use Rattle.laws.specs.Sums.{sumTo}
 use Rattle.matching.specs.Signed.{signedBy}
 use Rattle.pattern.specs.Pattern.{walked, copiesFrom, sharedFrom, matched, copiesOf, shared, asIs, Stands, Segment}
+use Rattle.pattern.specs.Closed.{count, changed, sentBefore}
 use Rattle.pattern.proofs.MatchedLaws.{differs, started, matched-same, sent-all, sent-sum}
 
 pub magnitude : (less : Bool) (m : ℕ) → natAbs (signedBy less m) ≡ m
@@ -57,6 +58,23 @@ unfolding shared
 shared-by false m N e vs h = refl
 shared-by true zero N e vs h = absurd (omega arith)
 shared-by true (suc a) N e vs h = refl
+
+-- how many are sent of the first j bits: d = 0, d < 0, d > 0
+pub sent-same : (less : Bool) (m N e j : ℕ) → m ≡ 0 → sentBefore (signedBy less m) N e j ≡ j
+unfolding sentBefore changed
+sent-same false zero N e j z = omega arith
+sent-same true zero N e j z = omega arith
+sent-same less (suc a) N e j z = absurd (omega arith)
+
+pub sent-less : (m N e j : ℕ) → 0 < m → sentBefore (signedBy true m) N e j ≡ j - count (2 * N) (2 * m) e j
+unfolding sentBefore changed
+sent-less zero N e j h = absurd (omega arith)
+sent-less (suc a) N e j h = refl
+
+pub sent-added : (m N e j : ℕ) → 0 < m → sentBefore (signedBy false m) N e j ≡ j + count (2 * N) (2 * m) e j
+unfolding sentBefore changed
+sent-added zero N e j h = absurd (omega arith)
+sent-added (suc a) N e j h = refl
 
 -- d = 0: the bits as they are
 pub matched-none : {A : Type 0} (less : Bool) (m N e : ℕ) (xs : List A) → m ≡ 0 → matched asIs (signedBy less m) N e xs ≡ xs
