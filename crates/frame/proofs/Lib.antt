@@ -3,3 +3,4 @@ pub mod ContentLaws
 pub mod SpreadLaws
 pub mod SendLaws
 pub mod Example
+pub mod RoomLaws

@@ -12,6 +12,7 @@ ghost use Rattle.opening.specs.Opened.{Opens};
 ghost use Rattle.pattern.specs.Pattern.{asIs};
 ghost use Rattle.interleaving.specs.First.{equalised};
 ghost use Rattle.frame.specs.Frame.{sentOf, multiplexedBits};
+ghost use Rattle.frame.specs.Room.{Segments};
 use counters::FrameNumber;
 use matching::shares::Change;
 use offset::start;
@@ -63,7 +64,7 @@ pub fn multiplex_bits(
     room: &mut [u8],
     out: &mut [u8],
 )
-    requires { ⌜ Opens opened × (length (now contents) ≡ encodedAll (opened .fields)) × (mostEncoded ≤ length (now room)) × (length (now out) ≡ capacityAll (opened .fields)) ⌝ }
+    requires { ⌜ Opens opened × (length (now contents) ≡ encodedAll (opened .fields)) × Segments (opened .fields) (length (now room)) × (length (now out) ≡ capacityAll (opened .fields)) ⌝ }
     ensures { λ _. ⌜ now (out .exit) ≡ multiplexedBits (opened .fields) (frame .0) (now (contents .entry)) ⌝ }
 {
     let fields = opened.fields;

@@ -6,8 +6,7 @@ use Prim.Native.Nat.{ℕ, zero, suc, _≤_, _<_}
 use native.Mathlib.Omega.{arith}
 use borrow.Author.Tests.{eq-eqb, ne-eqb, lt-ltb, le-ltb, eqb-true, not-false}
 use lib.Dec.{eqb, ltb, lit<}
-use lib.ListN.{length, take, replicate, length-replicate}
-use lib.Seq.{length-take-le}
+use lib.ListN.{length}
 use Rattle.laws.specs.FirstFail.{firstFail}
 use Rattle.laws.proofs.TestLaws.{or-left, or-right}
 use Rattle.counters.specs.Lines.{Line, line, firstOf, given}
@@ -193,11 +192,3 @@ module _ {A B : Type 0} (test : A → Bool) (vs : List A) (old : List B) (need r
     leaves-written k f g =
         left-written test vs (need (sheetOf s)) (room (sheetOf s)) head early (count (sheetOf s)) (make (sheetOf s)) old (sym (b .number) ∙ z) r asked k
         (f ∙ ap count (begun-fields s a b z)) (g ∙ ap make (begun-fields s a b z))
-
--- a room of n is as long
-pub room-long : {A : Type 0} (n : ℕ) (x : A) → n ≤ length (replicate n x)
-room-long n x = rw (length-replicate n x) (omega arith)
-
--- and its first part as long as that is
-pub room-part : {A : Type 0} (n k : ℕ) (x : A) → k ≤ n → length (take k (replicate n x)) ≡ k
-room-part n k x h = length-take-le k (replicate n x) (rw (length-replicate n x) h)

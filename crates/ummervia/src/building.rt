@@ -31,8 +31,7 @@ pub fn build(bytes: &[u8], frame: FrameNumber, contents: &[u8], out: &mut [u8]) 
     if asked.number != 0 {
         return asked;
     }
-    let mut room = [0u8; MOST_BITS as usize];
-    build_bits(contents, opened, frame, &mut room, out);
+    build_bits(contents, opened, frame, out);
     Answer {
         number: 0,
         at: places,

@@ -1,61 +1,56 @@
-use native.Mathlib.Omega.{arith}
-use mathlib.Core.Path.{_≡_, sym, ap, _∙_}
-use Prim.Native.Nat.{_≤_}
-use lib.ListN.{length}
-use lib.Seq.{length-take-le}
-use Rattle.sheet.specs.Sizes.{capacityAll}
-use Rattle.sheet.specs.declared.Sheet.{Sheet}
-use Rattle.opening.proofs.OpenLaws.{capacity-most}
-use Rattle.frame.specs.Frame.{spread, frameOf, multiplexedBits, bitFrame}
+use Rattle.frame.specs.Room.{smallRoom, middleRoom}
+use Rattle.frame.proofs.RoomLaws.{room-more}
 use borrow.Author.Needs.{needs}
 use Rattle.frame.proofs.building.build_bits.Statement.{statement}
 use Rattle.frame.proofs.building.build_bits.Tie as tie
 
--- the bits fill the frame, and the room is as long
-module _ (c : tie.After-multiplex-bits) where
-  abbrev sh : Sheet
-  sh = c .before .before .before .before .before .before .args .opened .fields
+room-for-requires : tie.Need-room-for-requires
+room-for-requires c κs = search needs
 
-  full : length (c .multiplex-bits .last .1 .1 .1 .1 .0) ≡ capacityAll sh
-  full = c .multiplex-bits .kept .1 .1 .1 .1 .0 ∙ c .before .before .before .before .before .before .pre .3
+build-small-requires : tie.Need-build-small-requires
+build-small-requires c κs =
+    let r = c .before .before in
+    let s = r .before .before .before in
+    (s .pre .0, s .pre .1, room-more (s .args .opened .fields) (r .room-for .result) smallRoom (r .room-for .ensures) (c .before .if1 .taken), s .pre .2)
 
-  fits : length (c .multiplex-bits .last .1 .1 .1 .1 .0) ≤ length (c .multiplex-bits .last .1 .1 .1 .0)
-  fits = omega (arith, full, c .multiplex-bits .kept .1 .1 .1 .0, c .before .before .before .before .before .before .pre .2, capacity-most sh (c .before .before .before .before .before .before .pre .0 .accepted))
+build-middle-requires : tie.Need-build-middle-requires
+build-middle-requires c κs =
+    let r = c .before .before .before in
+    let s = r .before .before .before in
+    (s .pre .0, s .pre .1, room-more (s .args .opened .fields) (r .room-for .result) middleRoom (r .room-for .ensures) (c .before .if2 .taken), s .pre .2)
 
-multiplex-bits-requires : tie.Need-multiplex-bits-requires
-multiplex-bits-requires c κs = search needs
-
-slice-relend-prefix-spread-over : tie.Need-slice-relend-prefix-spread-over
-slice-relend-prefix-spread-over c = fits (c .before .before .before .before)
-
-slice-aggregate-spread-over : tie.Need-slice-aggregate-spread-over
-slice-aggregate-spread-over c = sym (length-take-le _ _ (fits (c .before .before .before .before .before)))
-
-spread-over-requires : tie.Need-spread-over-requires
-spread-over-requires c κs =
-    let m = c .before .before .before .before .before .before in
-    (m .before .before .before .before .before .before .pre .0 .accepted, length-take-le _ _ (fits m) ∙ full m, full m)
+build-large-requires : tie.Need-build-large-requires
+build-large-requires c κs = search needs
 
 same-length : tie.Need-same-length
 same-length c = search needs
 
+returns : tie.Need-returns
+returns c = search needs
+
 same-length-2 : tie.Need-same-length-2
 same-length-2 c = search needs
 
-returns : tie.Need-returns
-unfolding bitFrame frameOf multiplexedBits
-returns c =
-    let m = c .before .before .before .before .before .before .before .before .before .before .before in
-    c .before .before .before .before .spread-over .ensures ∙ ap (spread (sh m)) (m .multiplex-bits .ensures)
+returns-2 : tie.Need-returns-2
+returns-2 c = search needs
+
+same-length-3 : tie.Need-same-length-3
+same-length-3 c = search needs
+
+returns-3 : tie.Need-returns-3
+returns-3 c = search needs
 
 pub build-bits-spec : {M : Type 1} → statement M
 build-bits-spec =
     tie.close
     (tie.spec
-    multiplex-bits-requires
-    slice-relend-prefix-spread-over
-    slice-aggregate-spread-over
-    spread-over-requires
+    room-for-requires
+    build-small-requires
+    build-middle-requires
+    build-large-requires
     same-length
+    returns
     same-length-2
-    returns)
+    returns-2
+    same-length-3
+    returns-3)

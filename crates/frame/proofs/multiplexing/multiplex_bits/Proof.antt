@@ -15,7 +15,7 @@ use Rattle.sheet.specs.Sizes.{sizeOf, encodedAll}
 use Rattle.matching.specs.Shares.{cutOf}
 use Rattle.opening.specs.Opened.{Opens}
 use Rattle.opening.specs.declared.Opened.{Opened}
-use Rattle.opening.proofs.OpenLaws.{size-is, sizes-most, high-is, cut-rises}
+use Rattle.opening.proofs.OpenLaws.{size-is, high-is, cut-rises}
 use Rattle.interleaving.specs.First.{equalised}
 use Rattle.pattern.specs.Pattern.{asIs}
 use Rattle.frame.specs.Frame.{sentOf, bitsOf, multiplexed, multiplexedBits}
@@ -57,7 +57,9 @@ module _ (c : tie.After-count2 Inv-loop μ-loop) where
   last = omega (arith, cut-within o opens i inside)
 
   fits : getD (o .sizes) i 0 ≤ length (c .before .before .before .loop .room)
-  fits = omega (arith, size-is o opens i inside, sizes-most (o .fields) (opens .accepted) i inside)
+  fits =
+      let s = c .before .before .before .before .before .before .before .before .before .before .before in
+      omega (arith, size-is o opens i inside, s .pre .2 i inside, c .before .before .before .loop .inv .2)
 
 count-requires : tie.Need-count-requires Inv-loop μ-loop
 count-requires c κs = search needs

@@ -1,17 +1,15 @@
 use mathlib.Core.Path.{_≡_, sym, ap, _∙_}
 use mathlib.Core.List.{[], _∷_}
-use Prim.Native.Nat.{ℕ}
 use lib.Dec.{ltb}
 use lib.ListN.{length}
 use Rattle.counters.specs.Lines.{line}
-use Rattle.sheet.specs.Counts.{mostBits}
 use Rattle.sheet.specs.Sizes.{encodedAll, capacityAll}
 use Rattle.opening.specs.Opened.{Opens}
 use Rattle.opening.specs.declared.OpenAnswer.{OpenAnswer}
 use Rattle.frame.specs.Bit.{isBit}
 use Rattle.frame.specs.Frame.{bitFrame}
 use Rattle.ummervia.specs.Looking.{lastFrame, frameLines}
-use Rattle.ummervia.proofs.LookLaws.{room-long, begun-opens, look-long, early-frame, leaves-early, leaves-looked, leaves-written}
+use Rattle.ummervia.proofs.LookLaws.{begun-opens, look-long, early-frame, leaves-early, leaves-looked, leaves-written}
 use borrow.Author.Needs.{needs}
 use Rattle.ummervia.proofs.building.build.Statement.{statement}
 use Rattle.ummervia.proofs.building.build.Tie as tie
@@ -54,28 +52,28 @@ returns-2 c =
     (frameLines (a .bytes .now) (a .frame .0)) (early-frame (a .bytes .now) (a .frame .0)) (o .open-frame .result) (o .open-frame .ensures)
     (l .before .before .before .before .before .if1 .left) (l .before .all-encoded .ensures) (l .before .before .capacity .ensures .0) (l .look .result) (l .look .ensures) (c .if2 .taken)
 
-slice-aggregate-build-bits : tie.Need-slice-aggregate-build-bits
-slice-aggregate-build-bits c = search needs
-
 build-bits-requires : tie.Need-build-bits-requires
 build-bits-requires c κs =
-    let l = c .before .before .before .before in
+    let l = c .before .before .before in
     let a = l .before .before .before .before .before .before .before .before .before .before .args in
-    let n = look-long isBit (a .contents .now) (l .before .all-encoded .result) (length (a .out .now)) (l .before .before .capacity .result) (l .look .result) (l .look .ensures) (c .before .before .if2 .left) in
-    (opens (l .before .before .before .before), n .0 ∙ l .before .all-encoded .ensures, room-long {A = ℕ} mostBits 0, n .1 ∙ l .before .before .capacity .ensures .0)
+    let n =
+    look-long isBit (a .contents .now) (l .before .all-encoded .result) (length (a .out .now)) (l .before .before .capacity .result)
+    (l .look .result) (l .look .ensures) (c .before .if2 .left)
+    in
+    (opens (l .before .before .before .before), n .0 ∙ l .before .all-encoded .ensures, n .1 ∙ l .before .before .capacity .ensures .0)
 
 same-length : tie.Need-same-length
 same-length c = search needs
 
 returns-3 : tie.Need-returns-3
 returns-3 c =
-    let l = c .before .before .before .before .before .before .before .before in
+    let l = c .before .before .before .before .before .before in
     let o = l .before .before .before .before .before .before in
     let a = o .before .before .before .before .args in
     leaves-written isBit (a .contents .now) (a .out .now) encodedAll capacityAll capacityAll (λ sh. bitFrame sh (a .frame .0) (a .contents .now)) (a .bytes .now)
     (frameLines (a .bytes .now) (a .frame .0)) (early-frame (a .bytes .now) (a .frame .0)) (o .open-frame .result) (o .open-frame .ensures)
     (l .before .before .before .before .before .if1 .left) (l .before .all-encoded .ensures) (l .before .before .capacity .ensures .0) (l .look .result) (l .look .ensures)
-    (c .before .before .before .before .before .before .if2 .left) (l .before .before .capacity .ensures .0) (c .before .before .before .build-bits .ensures)
+    (c .before .before .before .before .if2 .left) (l .before .before .capacity .ensures .0) (c .before .before .build-bits .ensures)
 
 pub build-spec : {M : Type 1} → statement M
 build-spec =
@@ -87,7 +85,6 @@ build-spec =
     all-encoded-requires
     look-requires
     returns-2
-    slice-aggregate-build-bits
     build-bits-requires
     same-length
     returns-3)

@@ -1,17 +1,16 @@
 use mathlib.Core.Path.{_≡_, sym, ap, _∙_}
 use mathlib.Core.List.{[], _∷_}
-use Prim.Native.Nat.{ℕ}
 use lib.Dec.{ltb}
 use lib.ListN.{length}
 use Rattle.counters.specs.Lines.{line}
-use Rattle.sheet.specs.Counts.{mostEncoded}
 use Rattle.sheet.specs.Sizes.{encodedAll, capacityAll}
 use Rattle.opening.specs.Opened.{Opens}
 use Rattle.opening.specs.declared.OpenAnswer.{OpenAnswer}
+use Rattle.frame.proofs.RoomLaws.{segments-of}
 use Rattle.frame.specs.Bit.{isBit}
 use Rattle.frame.specs.Frame.{multiplexedBits}
 use Rattle.ummervia.specs.Looking.{lastFrame, frameLines}
-use Rattle.ummervia.proofs.LookLaws.{room-long, begun-opens, look-long, early-frame, leaves-early, leaves-looked, leaves-written}
+use Rattle.ummervia.proofs.LookLaws.{begun-opens, look-long, early-frame, leaves-early, leaves-looked, leaves-written}
 use borrow.Author.Needs.{needs}
 use Rattle.ummervia.proofs.building.multiplex.Statement.{statement}
 use Rattle.ummervia.proofs.building.multiplex.Tie as tie
@@ -62,7 +61,7 @@ multiplex-bits-requires c κs =
     let l = c .before .before .before .before in
     let a = l .before .before .before .before .before .before .before .before .before .before .args in
     let n = look-long isBit (a .contents .now) (l .before .all-encoded .result) (length (a .out .now)) (l .before .before .capacity .result) (l .look .result) (l .look .ensures) (c .before .before .if2 .left) in
-    (opens (l .before .before .before .before), n .0 ∙ l .before .all-encoded .ensures, room-long {A = ℕ} mostEncoded 0, n .1 ∙ l .before .before .capacity .ensures .0)
+    (opens (l .before .before .before .before), n .0 ∙ l .before .all-encoded .ensures, segments-of (l .before .before .before .before .before .before .open-frame .result .opened .fields) (opens (l .before .before .before .before) .accepted), n .1 ∙ l .before .before .capacity .ensures .0)
 
 same-length : tie.Need-same-length
 same-length c = search needs

@@ -8,9 +8,10 @@ use Rattle.sheet.specs.Numbers.{readLines}
 use Rattle.opening.specs.Opened.{Opens}
 use Rattle.opening.specs.declared.OpenAnswer.{OpenAnswer}
 use Rattle.opening.proofs.OpenLaws.{opens, capacity-most}
+use Rattle.frame.proofs.RoomLaws.{room-part}
 use Rattle.frame.specs.Bit.{isBit}
 use Rattle.frame.specs.Frame.{spread}
-use Rattle.ummervia.proofs.LookLaws.{room-part, begun-sheet, look-long, early-read, leaves-early, leaves-looked, leaves-written}
+use Rattle.ummervia.proofs.LookLaws.{begun-sheet, look-long, early-read, leaves-early, leaves-looked, leaves-written}
 use borrow.Author.Needs.{needs}
 use Rattle.ummervia.proofs.building.spread.Statement.{statement}
 use Rattle.ummervia.proofs.building.spread.Tie as tie
