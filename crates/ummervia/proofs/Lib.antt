@@ -4,4 +4,5 @@ pub mod AskLaws
 pub mod FlatLaws
 pub mod SheetLaws
 pub mod ThereAndBack
+pub mod PartLaws
 pub mod Unique

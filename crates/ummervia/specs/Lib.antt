@@ -4,3 +4,4 @@ pub mod Looking
 pub mod Sheets
 pub mod Asking
 pub mod Building
+pub mod Part

@@ -3,6 +3,7 @@ ghost use mathlib.Core.Path.{_≡_};
 ghost use Rattle.ummervia.specs.Outcome.{outcome};
 ghost use Rattle.ummervia.specs.Sheets.{readInto, answerMade, lengthFrom, writeFrom};
 ghost use Rattle.ummervia.specs.Building.{buildInto, multiplexInto, spreadInto};
+ghost use Rattle.ummervia.specs.Part.{partMade, partAnswer};
 ghost use Rattle.ummervia.specs.Asking.{sizesMade, sizesAnswer, channelMade, channelAnswer};
 use crate::asking::channel;
 use crate::asking::sizes;
@@ -12,6 +13,7 @@ use crate::building::spread;
 use crate::flat::FLAT;
 use crate::flat::lay_sheet;
 use crate::flat::take_sheet;
+use crate::part::part;
 use crate::sheets::sheet_length;
 use crate::sheets::sheet_read;
 use crate::sheets::sheet_write;
@@ -143,5 +145,21 @@ pub extern "C" fn umv_spread(
 {
     let answer = spread(bytes, multiplexed, frame);
     *at = answer.at;
+    answer.number
+}
+
+#[no_mangle]
+pub extern "C" fn umv_part(
+    bytes: &[u8],
+    trch: u32,
+    multiplexed_len: u64,
+    start: &mut u64,
+    length: &mut u64,
+) -> u32
+    ensures { λ r. ⌜ partMade r (now (start .exit)) (now (length .exit)) ≡ partAnswer (now (bytes .entry)) trch «multiplexed_len» ⌝ }
+{
+    let answer = part(bytes, TrchNumber(trch), multiplexed_len);
+    *start = answer.start;
+    *length = answer.length;
     answer.number
 }

@@ -4,6 +4,7 @@ pub mod building;
 pub mod exports;
 pub mod flat;
 pub mod looking;
+pub mod part;
 pub mod sheets;
 
 // The sizes that a caller lends buffers by, zeros where the number is not 0.
@@ -25,4 +26,11 @@ pub struct ChannelAnswer {
     pub e: u64,
     pub n: u64,
     pub v: u64,
+}
+
+// Where a channel's part of the multiplexed frame begins, counted from 0, and how long it is; zeros where the number is not 0.
+pub struct PartAnswer {
+    pub number: u32,
+    pub start: u64,
+    pub length: u64,
 }
