@@ -113,6 +113,63 @@ uint32_t umv_sizes(const uint8_t *sheet, size_t sheet_len, uint64_t *channels, u
 uint32_t umv_channel(const uint8_t *sheet, size_t sheet_len, uint32_t trch, uint64_t *f, uint64_t *e, uint64_t *n,
                      uint64_t *v);
 
+/*
+ * Builds the frame (steps 1 to 9): what is sent in one 10 ms radio frame.
+ * frame_number  0 to 255: of a channel's F segments, the frame takes number frame_number mod F
+ * contents      contents_len bytes of 0 or 1, only read: channels in order, E bytes each, all of their current TTIs;
+ *               contents_len must be the sum of E (umv_sizes)
+ * frame         frame_len bytes, overwritten when the call is accepted: slot, then PhCH, then place; frame_len must be D
+ * at            answer: the bytes written, D; with 12 the index in contents of the first byte that is neither 0 nor 1
+ * Numbers: 1 to 8 of the sheet; then 9, 11, 12.
+ */
+uint32_t umv_build(const uint8_t *sheet, size_t sheet_len, uint32_t frame_number, const uint8_t *contents,
+                   size_t contents_len, uint8_t *frame, size_t frame_len, uint64_t *at);
+
+/*
+ * Multiplexes (steps 1 to 7): the rate matched bits of channels 1 to I in order, as they stand before second
+ * interleaving. umv_spread makes the frame of them, the same that umv_build makes of the contents.
+ * multiplexed   multiplexed_len bytes, overwritten when the call is accepted; multiplexed_len must be D
+ * The other parameters and the numbers are those of umv_build.
+ */
+uint32_t umv_multiplex(const uint8_t *sheet, size_t sheet_len, uint32_t frame_number, const uint8_t *contents,
+                       size_t contents_len, uint8_t *multiplexed, size_t multiplexed_len, uint64_t *at);
+
+/*
+ * Spreads multiplexed bits over the frame (steps 8 and 9). It does not depend on the frame number.
+ * multiplexed   multiplexed_len bytes of 0 or 1, only read; multiplexed_len must be D
+ * frame         frame_len bytes, overwritten when the call is accepted: slot, then PhCH, then place; frame_len must be D
+ * at            answer: the bytes written, D; with 12 the index in multiplexed of the first byte that is neither 0 nor 1
+ * Numbers: 1 to 8 of the sheet; then 11, 12.
+ */
+uint32_t umv_spread(const uint8_t *sheet, size_t sheet_len, const uint8_t *multiplexed, size_t multiplexed_len,
+                    uint8_t *frame, size_t frame_len, uint64_t *at);
+
+/*
+ * Which bit stands at a place of the frame, by direct calculation: nothing is built. No two places of a frame have the same
+ * answer, and the bits of its segments that no place has are the punctured ones.
+ * frame_number  0 to 255
+ * slot          counted from 1, at most T
+ * phch          counted from 1, at most P of the slot
+ * place         counted from 1, at most U of the PhCH
+ * trch          answer: the transport channel, counted from 1
+ * bit           answer: the bit's number in the channel's TTI before first interleaving, counted from 1; above E it is a filler
+ * copy          answer: which copy of the bit, counted from 0
+ * Numbers: 1 to 8 of the sheet; then 9; then 10 if there is no such slot, PhCH or place.
+ */
+uint32_t umv_name(const uint8_t *sheet, size_t sheet_len, uint32_t frame_number, uint32_t slot, uint32_t phch,
+                  uint32_t place, uint64_t *trch, uint64_t *bit, uint64_t *copy);
+
+/*
+ * Which part of a multiplexed frame belongs to one channel; its values are not looked at.
+ * trch             the channel, counted from 1, at most I
+ * multiplexed_len  the values of the multiplexed frame; it must be D
+ * start            answer: the index of the channel's first value, from 0
+ * length           answer: how many values it has, V; 0 for an empty channel
+ * Numbers: 1 to 8 of the sheet; then 10 if trch is 0 or over I; then 11.
+ */
+uint32_t umv_part(const uint8_t *sheet, size_t sheet_len, uint32_t trch, uint64_t multiplexed_len, uint64_t *start,
+                  uint64_t *length);
+
 #ifdef __cplusplus
 }
 #endif

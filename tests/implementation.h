@@ -38,6 +38,10 @@ static const struct implementation library = {
     .sheet_write = umv_sheet_write,
     .sizes = umv_sizes,
     .channel = umv_channel,
+    .build = umv_build,
+    .multiplex = umv_multiplex,
+    .spread = umv_spread,
+    .part = umv_part,
 };
 
 static const struct implementation reference = {
