@@ -7,12 +7,12 @@
 static VALUE *STEP(puncture)(const struct channel *c, int32_t e, const VALUE *segment, VALUE *out)
 {
     const int32_t fall = -2 * c->d, growth = 2 * (int32_t)c->N;
-    for (uint32_t m = 0; m < c->N; m++) {
+    for (const VALUE *end = segment + c->N; segment < end; segment++) {
         e -= fall;
         if (e <= 0)
             e += growth;
         else
-            *out++ = segment[m];
+            *out++ = *segment;
     }
     return out;
 }
@@ -20,10 +20,11 @@ static VALUE *STEP(puncture)(const struct channel *c, int32_t e, const VALUE *se
 static VALUE *STEP(repeat)(const struct channel *c, int32_t e, const VALUE *segment, VALUE *out)
 {
     const int32_t fall = 2 * c->d, growth = 2 * (int32_t)c->N;
-    for (uint32_t m = 0; m < c->N; m++) {
-        *out++ = segment[m];
+    for (const VALUE *end = segment + c->N; segment < end; segment++) {
+        const VALUE value = *segment;
+        *out++ = value;
         for (e -= fall; e <= 0; e += growth)
-            *out++ = segment[m];
+            *out++ = value;
     }
     return out;
 }
@@ -50,15 +51,16 @@ static void STEP(interleave)(const VALUE *values, size_t count, VALUE *out)
 /* Step 9: the slot's values, one at a time, to its PhCHs in turn, full ones passed over. */
 static void STEP(map)(const struct slot *slot, const VALUE *values, VALUE *frame)
 {
+    const uint32_t P = slot->P;
     VALUE *next[16];   /* the place that each PhCH fills next */
     uint32_t left[16]; /* how many places of it are free */
-    for (uint32_t p = 0; p < slot->P; p++) {
+    for (uint32_t p = 0; p < P; p++) {
         next[p] = p % 2 == 0 ? frame : frame + slot->U[p] - 1; /* PhCH p + 1: odd ones fill upwards */
         left[p] = slot->U[p];
         frame += slot->U[p];
     }
     for (const VALUE *end = values + slot->bits; values < end;)
-        for (uint32_t p = 0; p < slot->P; p++)
+        for (uint32_t p = 0; p < P; p++)
             if (left[p] > 0) {
                 *next[p] = *values++;
                 next[p] += p % 2 == 0 ? 1 : -1;

@@ -411,9 +411,10 @@ static int32_t start_of(const struct channel *c, uint32_t n)
 /* Steps 1 to 3: of the channel's E bits and its fillers, in rows of F, the column that frame n reads. */
 static void take_segment(const struct channel *c, uint32_t n, const uint8_t *contents, uint8_t *segment)
 {
+    const uint32_t E = c->E, F = c->F, N = c->N;
     uint32_t bit = first_order[c->TTI][n];
-    for (uint32_t m = 0; m < c->N; m++, bit += c->F)
-        segment[m] = bit < c->E ? contents[bit] : 0;
+    for (uint32_t m = 0; m < N; m++, bit += F)
+        segment[m] = bit < E ? contents[bit] : 0;
 }
 
 /* Steps 1 to 7. */

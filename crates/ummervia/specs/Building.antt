@@ -1,4 +1,5 @@
 -- What building a frame, multiplexing and spreading leave.
+use mathlib.Core.Bool.{Bool, cond}
 use mathlib.Core.List.{List, _++_}
 use Prim.Native.Nat.{ℕ}
 use lib.ListN.{length}
@@ -25,6 +26,10 @@ buildInto s frame contents old =
 abbrev pub multiplexInto : List ℕ → ℕ → List ℕ → List ℕ → Outcome ℕ
 multiplexInto s frame contents old =
     looked (firstOf (contentLines s frame contents (length old))) (firstBad contents) (capacityAll (sheetOf s)) (multiplexedBits (sheetOf s) frame contents) old
+
+-- the one or the other
+abbrev pub sendInto : Bool → List ℕ → ℕ → List ℕ → List ℕ → Outcome ℕ
+sendInto whole s frame contents old = cond whole (buildInto s frame contents old) (multiplexInto s frame contents old)
 
 -- spread: 1 to 8, then the multiplexed bits, of which D are needed, and D places
 abbrev pub spreadLines : List ℕ → List ℕ → ℕ → List Line

@@ -1,7 +1,7 @@
 // A frame is built: steps 1 to 9, or 1 to 7, or 8 and 9.
 ghost use mathlib.Core.Path.{_≡_};
 ghost use Rattle.ummervia.specs.Outcome.{outcome};
-ghost use Rattle.ummervia.specs.Building.{buildInto, multiplexInto, spreadInto};
+ghost use Rattle.ummervia.specs.Building.{buildInto, multiplexInto, sendInto, spreadInto};
 use crate::looking::look;
 use crate::looking::open_frame;
 use counters::Answer;
@@ -15,9 +15,9 @@ use sheet::counts::MOST_ENCODED;
 use sheet::sizes::all_encoded;
 use sheet::sizes::capacity;
 
-// Steps 1 to 9: the frame of the contents.
-pub fn build(bytes: &[u8], frame: FrameNumber, contents: &[u8], out: &mut [u8]) -> Answer
-    ensures { λ r. ⌜ outcome (r .number) (r .at) (now (out .exit)) ≡ buildInto (now (bytes .entry)) (frame .0) (now (contents .entry)) (now (out .entry)) ⌝ }
+// The contents are asked and sent: to the whole frame, or multiplexed.
+fn send(bytes: &[u8], frame: FrameNumber, contents: &[u8], out: &mut [u8], whole: bool) -> Answer
+    ensures { λ r. ⌜ outcome (r .number) (r .at) (now (out .exit)) ≡ sendInto whole (now (bytes .entry)) (frame .0) (now (contents .entry)) (now (out .entry)) ⌝ }
 {
     let answer = open_frame(bytes, frame);
     let number = answer.number;
@@ -31,28 +31,12 @@ pub fn build(bytes: &[u8], frame: FrameNumber, contents: &[u8], out: &mut [u8]) 
     if asked.number != 0 {
         return asked;
     }
-    build_bits(contents, opened, frame, out);
-    Answer {
-        number: 0,
-        at: places,
-    }
-}
-
-// Steps 1 to 7: the multiplexed bits of the contents.
-pub fn multiplex(bytes: &[u8], frame: FrameNumber, contents: &[u8], out: &mut [u8]) -> Answer
-    ensures { λ r. ⌜ outcome (r .number) (r .at) (now (out .exit)) ≡ multiplexInto (now (bytes .entry)) (frame .0) (now (contents .entry)) (now (out .entry)) ⌝ }
-{
-    let answer = open_frame(bytes, frame);
-    let number = answer.number;
-    if number != 0 {
-        return Answer { number, at: 0 };
-    }
-    let opened = answer.opened;
-    let fields = opened.fields;
-    let places = capacity(fields);
-    let asked = look(contents, all_encoded(fields), out.len(), places);
-    if asked.number != 0 {
-        return asked;
+    if whole {
+        build_bits(contents, opened, frame, out);
+        return Answer {
+            number: 0,
+            at: places,
+        };
     }
     let mut room = [0u8; MOST_ENCODED as usize];
     multiplex_bits(contents, opened, frame, &mut room, out);
@@ -60,6 +44,20 @@ pub fn multiplex(bytes: &[u8], frame: FrameNumber, contents: &[u8], out: &mut [u
         number: 0,
         at: places,
     }
+}
+
+// Steps 1 to 9: the frame of the contents.
+pub fn build(bytes: &[u8], frame: FrameNumber, contents: &[u8], out: &mut [u8]) -> Answer
+    ensures { λ r. ⌜ outcome (r .number) (r .at) (now (out .exit)) ≡ buildInto (now (bytes .entry)) (frame .0) (now (contents .entry)) (now (out .entry)) ⌝ }
+{
+    send(bytes, frame, contents, out, true)
+}
+
+// Steps 1 to 7: the multiplexed bits of the contents.
+pub fn multiplex(bytes: &[u8], frame: FrameNumber, contents: &[u8], out: &mut [u8]) -> Answer
+    ensures { λ r. ⌜ outcome (r .number) (r .at) (now (out .exit)) ≡ multiplexInto (now (bytes .entry)) (frame .0) (now (contents .entry)) (now (out .entry)) ⌝ }
+{
+    send(bytes, frame, contents, out, false)
 }
 
 // Steps 8 and 9: the frame of multiplexed bits.
@@ -74,9 +72,9 @@ pub fn spread(bytes: &[u8], bits: &[u8], out: &mut [u8]) -> Answer
     let opened = answer.opened;
     let fields = opened.fields;
     let places = capacity(fields);
-    let asked = look(bits, places, out.len(), places);
-    if asked.number != 0 {
-        return asked;
+    let looked = look(bits, places, out.len(), places);
+    if looked.number != 0 {
+        return looked;
     }
     let mut room = [0u8; MOST_BITS as usize];
     let n = out.len();

@@ -3,7 +3,7 @@ ghost use mathlib.Core.Path.{_≡_};
 ghost use Prim.Native.Nat.{_+_, _-_, _≤_, _<_};
 ghost use lib.ListN.{length};
 ghost use Rattle.opening.specs.Opened.{Opens};
-ghost use Rattle.ummervia.specs.Part.{partIn, noPart, partAnswer, partOf};
+ghost use Rattle.ummervia.specs.Part.{partMade, partIn, partAnswer, partOf};
 use crate::PartAnswer;
 use crate::asking::absent;
 use counters::TrchNumber;
@@ -12,27 +12,24 @@ use opening::open_sheet;
 use opening::share;
 use sheet::sizes::capacity;
 
+fn made(number: u32, start: u64, length: u64) -> PartAnswer
+    ensures { λ r. ⌜ r ≡ partMade number start length ⌝ }
+{
+    PartAnswer {
+        number,
+        start,
+        length,
+    }
+}
+
 fn part_of(opened: Opened, i: usize) -> PartAnswer
     requires { ⌜ Opens opened × (i < opened .fields .channels) ⌝ }
     ensures { λ r. ⌜ r ≡ partIn (opened .fields) i ⌝ }
 {
     let cuts = opened.cuts;
+    let start = cuts[i];
     let length = share(opened, i);
-    PartAnswer {
-        number: 0,
-        start: cuts[i],
-        length,
-    }
-}
-
-fn no_part(number: u32) -> PartAnswer
-    ensures { λ r. ⌜ r ≡ noPart number ⌝ }
-{
-    PartAnswer {
-        number,
-        start: 0,
-        length: 0,
-    }
+    made(0, start, length)
 }
 
 // The number, and where the part of a multiplexed frame of n values begins, counted from 0, and how long it is.
@@ -42,15 +39,15 @@ pub fn part(bytes: &[u8], trch: TrchNumber, n: u64) -> PartAnswer
     let answer = open_sheet(bytes);
     let number = answer.number;
     if number != 0 {
-        return no_part(number);
+        return made(number, 0, 0);
     }
     let opened = answer.opened;
     let fields = opened.fields;
     if absent(fields, trch) {
-        return no_part(10);
+        return made(10, 0, 0);
     }
     if n != capacity(fields) {
-        return no_part(11);
+        return made(11, 0, 0);
     }
     part_of(opened, trch.index())
 }

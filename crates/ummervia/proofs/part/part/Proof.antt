@@ -29,26 +29,26 @@ module _ (c : tie.Else2) where
 open-sheet-requires : tie.Need-open-sheet-requires
 open-sheet-requires c κs = search needs
 
-no-part-requires : tie.Need-no-part-requires
-no-part-requires c κs = search needs
+made-requires : tie.Need-made-requires
+made-requires c κs = search needs
 
 returns : tie.Need-returns
 returns c =
     let o = c .before .before in
     let a = o .before .before .args in
-    c .no-part .ensures ∙ part-no (a .bytes .now) (o .open-sheet .result) (o .open-sheet .ensures) (a .trch .0) (a .n) (c .before .if1 .taken)
+    c .made .ensures ∙ part-no (a .bytes .now) (o .open-sheet .result) (o .open-sheet .ensures) (a .trch .0) (a .n) (c .before .if1 .taken)
 
 absent-requires : tie.Need-absent-requires
 absent-requires c κs = search needs
 
-no-part-requires-2 : tie.Need-no-part-requires-2
-no-part-requires-2 c κs = search needs
+made-requires-2 : tie.Need-made-requires-2
+made-requires-2 c κs = search needs
 
 returns-2 : tie.Need-returns-2
 returns-2 c =
     let o = c .before .before .before .before .before .before in
     let a = o .before .before .args in
-    c .no-part2 .ensures
+    c .made2 .ensures
     ∙ part-absent (a .bytes .now) (o .open-sheet .result) (o .open-sheet .ensures) (a .trch .0) (a .n) (c .before .before .before .before .before .if1 .left)
     (sym (c .before .before .absent .ensures) ∙ c .before .if2 .taken)
 
@@ -57,14 +57,14 @@ capacity-requires c κs =
     let o = c .before .before .before .before .before in
     opens (o .before .before .args .bytes .now) (o .open-sheet .result) (o .open-sheet .ensures) (c .before .before .before .before .if1 .left) .accepted .ranged
 
-no-part-requires-3 : tie.Need-no-part-requires-3
-no-part-requires-3 c κs = search needs
+made-requires-3 : tie.Need-made-requires-3
+made-requires-3 c κs = search needs
 
 returns-3 : tie.Need-returns-3
 returns-3 c =
     let o = c .before .before .before .before .before .before .before .before in
     let a = o .before .before .args in
-    c .no-part3 .ensures
+    c .made3 .ensures
     ∙ part-misfit (a .bytes .now) (o .open-sheet .result) (o .open-sheet .ensures) (a .trch .0) (a .n) (c .before .before .before .before .before .before .before .if1 .left)
     (there (c .before .before .before)) (λ q. c .before .if3 .taken (q ∙ sym (c .before .before .capacity .ensures .0)))
 
@@ -91,13 +91,13 @@ part-spec =
     tie.close
     (tie.spec
     open-sheet-requires
-    no-part-requires
+    made-requires
     returns
     absent-requires
-    no-part-requires-2
+    made-requires-2
     returns-2
     capacity-requires
-    no-part-requires-3
+    made-requires-3
     returns-3
     index-requires
     part-of-requires
