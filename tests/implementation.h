@@ -41,6 +41,7 @@ static const struct implementation library = {
     .build = umv_build,
     .multiplex = umv_multiplex,
     .spread = umv_spread,
+    .name_of = umv_name,
     .part = umv_part,
 };
 

@@ -5,4 +5,5 @@ pub mod FlatLaws
 pub mod SheetLaws
 pub mod ThereAndBack
 pub mod PartLaws
+pub mod NameLaws
 pub mod Unique

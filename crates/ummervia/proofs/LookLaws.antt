@@ -90,7 +90,7 @@ pub data Early : List Line → Type 0 where
   no-line : Early []
   and-line : {l : Line} {ls : List Line} → 0 < l .number → l .number < 12 → Early ls → Early (l ∷ ls)
 
-early-numbered : {ls : List Line} → Early ls → Numbered ls
+pub early-numbered : {ls : List Line} → Early ls → Numbered ls
 early-numbered no-line = none
 early-numbered (and-line a b e) = more a (early-numbered e)
 
@@ -121,7 +121,7 @@ begun-opens s tail a b z =
     let q : readNumber s ≡ 0 = of-clear (append-zero tail (read-numbered s) (sym (b .number) ∙ z)) in
     subst Opens (sym (b .opened z)) (record { own = refl; accepted = accepted-in s q })
 
-begun-fields : (s : List ℕ) {lines : List Line} (a : OpenAnswer) → Begun s lines a → a .number ≡ 0 → a .opened .fields ≡ sheetOf s
+pub begun-fields : (s : List ℕ) {lines : List Line} (a : OpenAnswer) → Begun s lines a → a .number ≡ 0 → a .opened .fields ≡ sheetOf s
 begun-fields s a b z = ap (λ (x : Opened). x .fields) (b .opened z)
 
 -- and what was looked at with number 0 is long enough

@@ -12,6 +12,7 @@ use Rattle.ummervia.specs.Outcome.{Outcome}
 use Rattle.ummervia.specs.Sheets.{readInto, writeInto, lengthFrom, writeFrom}
 use Rattle.ummervia.specs.Asking.{sizesAnswer, channelAnswer}
 use Rattle.ummervia.specs.Building.{buildInto, multiplexInto, spreadInto}
+use Rattle.ummervia.specs.Naming.{Naming, nameAnswer}
 use Rattle.ummervia.specs.Part.{partAnswer, partOf}
 use Rattle.ummervia.specs.declared.SizesAnswer.{SizesAnswer}
 use Rattle.ummervia.specs.declared.ChannelAnswer.{ChannelAnswer}
@@ -47,6 +48,10 @@ multiplex bytes frame contents old x y = only (multiplexInto bytes frame content
 pub spread : (bytes bits old : List ℕ) (x y : Outcome ℕ) → x ≡ spreadInto bytes bits old → y ≡ spreadInto bytes bits old → x ≡ y
 spread bytes bits old x y = only (spreadInto bytes bits old)
 
+pub name : (bytes : List ℕ) (frame slot phch place : ℕ) (x y : Naming)
+    → x ≡ nameAnswer bytes frame slot phch place → y ≡ nameAnswer bytes frame slot phch place → x ≡ y
+name bytes frame slot phch place x y = only (nameAnswer bytes frame slot phch place)
+
 pub part : (bytes : List ℕ) (trch n : ℕ) (x y : PartAnswer) → x ≡ partAnswer bytes trch n → y ≡ partAnswer bytes trch n → x ≡ y
 part bytes trch n x y = only (partAnswer bytes trch n)
 
@@ -54,7 +59,8 @@ part bytes trch n x y = only (partAnswer bytes trch n)
 pub part-values : {A : Type 0} (bytes : List ℕ) (trch : ℕ) (vs x y : List A) → x ≡ partOf bytes trch vs → y ≡ partOf bytes trch vs → x ≡ y
 part-values bytes trch vs x y = only (partOf bytes trch vs)
 
--- the calls in C; umv_sizes, umv_channel, umv_build, umv_multiplex, umv_spread and umv_part leave what the calls in Rattle do
+-- the calls in C; umv_sizes, umv_channel, umv_build, umv_multiplex, umv_spread, umv_name and umv_part leave what the
+-- calls in Rattle do
 pub umv-sheet-read : (bytes old : List ℕ) (x y : Outcome ℕ) → x ≡ readInto bytes old → y ≡ readInto bytes old → x ≡ y
 umv-sheet-read bytes old x y = only (readInto bytes old)
 

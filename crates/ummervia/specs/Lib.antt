@@ -5,3 +5,4 @@ pub mod Sheets
 pub mod Asking
 pub mod Building
 pub mod Part
+pub mod Naming

@@ -3,6 +3,7 @@ ghost use mathlib.Core.Path.{_≡_};
 ghost use Rattle.ummervia.specs.Outcome.{outcome};
 ghost use Rattle.ummervia.specs.Sheets.{readInto, answerMade, lengthFrom, writeFrom};
 ghost use Rattle.ummervia.specs.Building.{buildInto, multiplexInto, spreadInto};
+ghost use Rattle.ummervia.specs.Naming.{nameLeft, nameAnswer};
 ghost use Rattle.ummervia.specs.Part.{partMade, partAnswer};
 ghost use Rattle.ummervia.specs.Asking.{sizesMade, sizesAnswer, channelMade, channelAnswer};
 use crate::asking::channel;
@@ -13,11 +14,13 @@ use crate::building::spread;
 use crate::flat::FLAT;
 use crate::flat::lay_sheet;
 use crate::flat::take_sheet;
+use crate::name::name;
 use crate::part::part;
 use crate::sheets::sheet_length;
 use crate::sheets::sheet_read;
 use crate::sheets::sheet_write;
 use counters::FrameNumber;
+use counters::PhchNumber;
 use counters::TrchNumber;
 
 #[no_mangle]
@@ -161,5 +164,32 @@ pub extern "C" fn umv_part(
     let answer = part(bytes, TrchNumber(trch), multiplexed_len);
     *start = answer.start;
     *length = answer.length;
+    answer.number
+}
+
+#[no_mangle]
+pub extern "C" fn umv_name(
+    bytes: &[u8],
+    frame_number: u32,
+    slot: u32,
+    phch: u32,
+    place: u32,
+    trch: &mut u64,
+    bit: &mut u64,
+    copy: &mut u64,
+) -> u32
+    ensures { λ r. ⌜ nameLeft r (now (trch .exit)) (now (bit .exit)) (now (copy .exit)) ≡ nameAnswer (now (bytes .entry)) «frame_number» slot phch place ⌝ }
+{
+    let answer = name(
+        bytes,
+        FrameNumber(frame_number),
+        slot,
+        PhchNumber(phch),
+        place,
+    );
+    let found = answer.name;
+    *trch = found.trch.0 as u64;
+    *bit = found.bit.0 as u64;
+    *copy = found.copy;
     answer.number
 }

@@ -4,8 +4,11 @@ pub mod building;
 pub mod exports;
 pub mod flat;
 pub mod looking;
+pub mod name;
 pub mod part;
 pub mod sheets;
+
+use naming::PlaceName;
 
 // The sizes that a caller lends buffers by, zeros where the number is not 0.
 pub struct SizesAnswer {
@@ -33,4 +36,10 @@ pub struct PartAnswer {
     pub number: u32,
     pub start: u64,
     pub length: u64,
+}
+
+// The name of a place, zeros where the number is not 0.
+pub struct NameAnswer {
+    pub number: u32,
+    pub name: PlaceName,
 }

@@ -1,0 +1,41 @@
+// The name of a place: nothing is built.
+ghost use mathlib.Core.Path.{_≡_};
+ghost use Rattle.naming.specs.Name.{nameIn};
+ghost use Rattle.ummervia.specs.Naming.{named, noName, nameAnswer};
+use crate::NameAnswer;
+use crate::looking::open_frame;
+use counters::BitNumber;
+use counters::FrameNumber;
+use counters::PhchNumber;
+use counters::TrchNumber;
+use naming::PlaceName;
+use naming::existing::place_exists;
+use naming::name_place;
+
+fn no_name(number: u32) -> NameAnswer
+    ensures { λ r. ⌜ named (r .number) (nameIn (r .name)) ≡ named number noName ⌝ }
+{
+    let name = PlaceName {
+        trch: TrchNumber(0),
+        bit: BitNumber(0),
+        copy: 0,
+    };
+    NameAnswer { number, name }
+}
+
+// Which copy of which bit of which channel stands at a place.
+pub fn name(bytes: &[u8], frame: FrameNumber, slot: u32, phch: PhchNumber, place: u32) -> NameAnswer
+    ensures { λ r. ⌜ named (r .number) (nameIn (r .name)) ≡ nameAnswer (now (bytes .entry)) (frame .0) slot (phch .0) place ⌝ }
+{
+    let answer = open_frame(bytes, frame);
+    let number = answer.number;
+    if number != 0 {
+        return no_name(number);
+    }
+    let opened = answer.opened;
+    if place_exists(opened.fields, slot, phch, place) {
+        let name = name_place(opened, frame, slot, phch, place);
+        return NameAnswer { number: 0, name };
+    }
+    no_name(10)
+}
