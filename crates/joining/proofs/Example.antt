@@ -5,12 +5,13 @@ use mathlib.Core.List.{List, [], _∷_}
 use Prim.Native.Nat.{ℕ}
 use lib.Count.{trailingZeros}
 use lib.IntN.{pos, negsuc}
-use lib.Ieee.{Float, fin, span, climb, size, odd, units, round, sum, add}
+use lib.Ieee.{Float, fin, span, climb, size, odd, units, round, sum, add, lt}
 use Rattle.pattern.specs.Pattern.{again, grown, sharedFrom, shared}
 use Rattle.joining.specs.declared.Heard.the-variants.{Nothing, Once, Joined}
 use Rattle.joining.specs.Joining.{joinOf, plusZero, valueOf, heardOf, homeOf}
+use Rattle.joining.specs.Linked.{magnitudeOf, magnitudes, punctures, chosen, linkOf}
 
--- 1, 2.5, 3, 3.5 and -0.0; 2^24, above which a float has no odd number, and the next above it
+-- 1, 2.5, 3, -3, 3.5 and -0.0; 2^24, above which a float has no odd number, and the next above it
 abbrev one : Float
 one = fin false 1 (pos 0)
 
@@ -19,6 +20,9 @@ twoHalf = fin false 5 (negsuc 0)
 
 abbrev three : Float
 three = fin false 3 (pos 0)
+
+abbrev minusThree : Float
+minusThree = fin true 3 (pos 0)
 
 abbrev threeHalf : Float
 threeHalf = fin false 7 (negsuc 0)
@@ -48,3 +52,11 @@ punctured-home = refl
 pub order-home : (homeOf (pos 2) 1 1 (wide ∷ one ∷ one ∷ []) ≡ wide ∷ []) × (homeOf (pos 2) 1 1 (one ∷ one ∷ wide ∷ []) ≡ wider ∷ [])
 unfolding trailingZeros span climb size odd units round sum add again grown sharedFrom shared joinOf valueOf heardOf homeOf
 order-home = (refl, refl)
+
+-- the record of 3.5, 1, -3 and two bits that were not heard; that of -0.0, whose magnitude is +0.0, and 1; and that of nothing heard
+pub linked : (linkOf (Nothing ∷ Joined threeHalf 2 ∷ Once one ∷ Nothing ∷ Once minusThree ∷ [])
+    ≡ record { least = one; greatest = threeHalf; punctured = 2 })
+    × (linkOf (Once minusZero ∷ Once one ∷ []) ≡ record { least = plusZero; greatest = one; punctured = 0 })
+    × (linkOf (Nothing ∷ []) ≡ record { least = plusZero; greatest = plusZero; punctured = 1 })
+unfolding lt magnitudeOf magnitudes punctures chosen linkOf
+linked = (refl, refl, refl)

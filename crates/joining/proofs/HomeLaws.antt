@@ -17,6 +17,7 @@ use Rattle.pattern.proofs.MatchedLaws.{sent-all, sent-more, length-shared, shar
 use Rattle.pattern.proofs.SourceLaws.{sent-up}
 use Rattle.pattern.proofs.SegmentLaws.{shared-by}
 use Rattle.joining.specs.declared.Heard.{Heard}
+use Rattle.joining.specs.declared.Heard.the-variants.{Once}
 use Rattle.joining.specs.Joining.{joinOf, valueOf, heardOf, homeOf}
 
 -- the values that bits get by their shares of the values sent
@@ -72,21 +73,35 @@ heard-alone d N e j vs {a} {b} r h qa qb =
 -- ---- by a sign and a magnitude
 
 -- d is not 0
+pub heard-by : (less : Bool) (m N e : ℕ) (vs : List Float) → 0 < m
+    → heardOf (signedBy less m) N e vs ≡ map joinOf (sharedFrom less (2 * N) (2 * m) e N vs)
+unfolding heardOf
+heard-by less m N e vs h = ap (map joinOf) (shared-by less m N e vs h)
+
 pub home-by : (less : Bool) (m N e : ℕ) (vs : List Float) → 0 < m
     → homeOf (signedBy less m) N e vs ≡ homes (sharedFrom less (2 * N) (2 * m) e N vs)
-unfolding heardOf homeOf
-home-by less m N e vs h = ap homes (shared-by less m N e vs h)
+unfolding homeOf
+home-by less m N e vs h = ap (map valueOf) (heard-by less m N e vs h)
 
--- d = 0: the values as they are
-each-once : (P e n : ℕ) (vs : List Float) → length vs ≡ n → homes (sharedFrom false P 0 e n vs) ≡ vs
-unfolding again grown sharedFrom joinOf valueOf
+-- d = 0: each bit is heard once, and the values are as they were
+each-once : (P e n : ℕ) (vs : List Float) → length vs ≡ n → map joinOf (sharedFrom false P 0 e n vs) ≡ map Once vs
+unfolding again grown sharedFrom joinOf
 each-once P e zero [] h = refl
 each-once P e zero (v ∷ vs) h = absurd (omega arith)
 each-once P e (suc n) [] h = absurd (omega arith)
-each-once P e (suc n) (v ∷ vs) h = ap (λ (l : List Float). v ∷ l) (each-once P (after false P 0 e) n vs (omega arith))
+each-once P e (suc n) (v ∷ vs) h = ap (λ (l : List Heard). Once v ∷ l) (each-once P (after false P 0 e) n vs (omega arith))
+
+pub heard-same : (less : Bool) (m N e : ℕ) (vs : List Float) → m ≡ 0 → length vs ≡ N → heardOf (signedBy less m) N e vs ≡ map Once vs
+unfolding shared heardOf
+heard-same false zero N e vs z h = each-once (2 * N) e N vs h
+heard-same true zero N e vs z h = each-once (2 * N) e N vs h
+heard-same less (suc a) N e vs z h = absurd (omega arith)
+
+once-home : (vs : List Float) → map valueOf (map Once vs) ≡ vs
+unfolding valueOf
+once-home [] = refl
+once-home (v ∷ vs) = ap (λ (l : List Float). v ∷ l) (once-home vs)
 
 pub home-same : (less : Bool) (m N e : ℕ) (vs : List Float) → m ≡ 0 → length vs ≡ N → homeOf (signedBy less m) N e vs ≡ vs
-unfolding shared heardOf homeOf
-home-same false zero N e vs z h = each-once (2 * N) e N vs h
-home-same true zero N e vs z h = each-once (2 * N) e N vs h
-home-same less (suc a) N e vs z h = absurd (omega arith)
+unfolding homeOf
+home-same less m N e vs z h = ap (map valueOf) (heard-same less m N e vs z h) ∙ once-home vs

@@ -8,7 +8,8 @@ use mathlib.Core.List.{List}
 use lib.ListN.{length, set}
 use lib.Ieee.{Float, ofBits}
 use Rattle.joining.specs.Joining.{valueOf}
-use Rattle.joining.proofs.FillLaws.{Filling, fill-start, fill-room, fill-turn, fill-end}
+use Rattle.joining.proofs.FillLaws.{Filling, fill-start, fill-turn, fill-end}
+use Rattle.joining.proofs.PlaceLaws.{place-room}
 use Rattle.joining.proofs.filling.fill.Statement.{statement}
 use Rattle.joining.proofs.filling.fill.Tie as tie
 
@@ -38,7 +39,7 @@ turn-requires c κs =
 hear-at-requires : tie.Need-hear-at-requires Inv-loop μ-loop
 hear-at-requires c κs =
     let l = c .before .before .loop in
-    omega (arith, fill-room (l .inv) (omega arith), c .turn .ensures .0)
+    omega (arith, place-room (l .inv .place) (omega arith), c .turn .ensures .0)
 
 enum-told : tie.Need-enum-told Inv-loop μ-loop
 enum-told c = search needs
@@ -70,7 +71,7 @@ slice-write-segment-3 c = omega arith
 add-k : tie.Need-add-k Inv-loop μ-loop
 add-k c =
     let l = c .before .before .before .before .loop in
-    omega (arith, fill-room (l .inv) (omega arith), c .before .before .turn .ensures .0)
+    omega (arith, place-room (l .inv .place) (omega arith), c .before .before .turn .ensures .0)
 
 add-i : tie.Need-add-i Inv-loop μ-loop
 add-i c = omega arith

@@ -1,0 +1,67 @@
+-- The walk over the values sent of a segment: where e stands before bit i, which values are left, and what one bit does to both.
+use mathlib.Core.Path.{_≡_, refl, sym, ap, _∙_}
+use mathlib.Core.Bool.{Bool}
+use mathlib.Core.List.{List, _∷_}
+use Prim.Native.Nat.{ℕ, zero, suc, _+_, _*_, _-_, _≤_, _<_}
+use native.Mathlib.Omega.{arith}
+use lib.ListN.{length, take, drop}
+use lib.Seq.{drop-drop}
+use lib.Ieee.{Float}
+use Rattle.laws.specs.Sums.{sumTo}
+use Rattle.sheet.specs.Counts.{mostEncoded, mostBits}
+use Rattle.pattern.specs.Pattern.{copiesAt, after, copiesFrom, sharedFrom, Stands, Segment}
+use Rattle.pattern.proofs.CountLaws.{after-stands}
+use Rattle.pattern.proofs.WalkLaws.{first-apart}
+use Rattle.pattern.proofs.SegmentLaws.{stands, sized-copies}
+
+-- the values from k on are those of the bits from i on
+pub record Place (less : Bool) (m N : ℕ) (vs : List Float) (e k i : ℕ) : Type 0 where
+  pub few : N ≤ mostEncoded
+  pub most : m ≤ mostBits
+  pub upto : i ≤ N
+  pub here : Stands less (2 * N) (2 * m) e
+  pub rest : k + sumTo (copiesFrom less (2 * N) (2 * m) e) (N - i) ≡ length vs
+
+pub place-start : (less : Bool) (m N e : ℕ) (vs : List Float) → Segment less m N (length vs) e → 0 < m → Place less m N vs e 0 0
+place-start less m N e vs s h =
+    let q : N - 0 ≡ N = omega arith in
+    record {
+      few = s .few;
+      most = s .most;
+      upto = omega arith;
+      here = stands less m N (length vs) e s h;
+      rest = rw q (omega (arith, sized-copies less m N (length vs) e s h));
+    }
+
+-- what the bits from i on get of the values from k on
+abbrev pub left : Bool → ℕ → ℕ → List Float → ℕ → ℕ → ℕ → List (List Float)
+left less m N vs e k i = sharedFrom less (2 * N) (2 * m) e (N - i) (drop k vs)
+
+module _ {less : Bool} {m N : ℕ} {vs : List Float} {e k i : ℕ} (p : Place less m N vs e k i) (h : i < N) where
+  apart : let P = 2 * N in let D = 2 * m in
+      k + (copiesAt less P D e + sumTo (copiesFrom less P D (after less P D e)) (N - (i + 1))) ≡ length vs
+  apart =
+      let q : N - i ≡ suc (N - (i + 1)) = omega arith in
+      omega (arith, p .rest, ap (sumTo (copiesFrom less (2 * N) (2 * m) e)) q, first-apart less (2 * N) (2 * m) e (N - (i + 1)))
+
+  pub place-room : k + copiesAt less (2 * N) (2 * m) e ≤ length vs
+  place-room = omega (arith, apart)
+
+  -- c copies are sent of bit i, and e′ is e as the next bit finds it
+  module _ {c e′ : ℕ} (qc : c ≡ copiesAt less (2 * N) (2 * m) e) (qe : e′ ≡ after less (2 * N) (2 * m) e) where
+    pub place-next : Place less m N vs e′ (k + c) (i + 1)
+    place-next =
+        rw (qc, qe)
+        (record {
+          few = p .few;
+          most = p .most;
+          upto = omega arith;
+          here = after-stands less (2 * N) (2 * m) e (p .here);
+          rest = omega (arith, apart);
+        })
+
+    pub left-next : left less m N vs e k i ≡ take c (drop k vs) ∷ left less m N vs e′ (k + c) (i + 1)
+    unfolding sharedFrom
+    left-next =
+        let q : N - i ≡ suc (N - (i + 1)) = omega arith in
+        rw (q, qc, qe, ← drop-drop (copiesAt less (2 * N) (2 * m) e) k vs)
