@@ -10,6 +10,7 @@ use lib.ListN.{length, getD, take, drop, length-map}
 use lib.Ieee.{Float}
 use Rattle.laws.specs.Tables.{table}
 use Rattle.laws.proofs.LeastLaws.{rises}
+use Rattle.laws.proofs.PartLaws.{map-at}
 use Rattle.matching.specs.Signed.{signedBy}
 use Rattle.pattern.specs.Pattern.{again, grown, after, copiesAt, sharedFrom, shared, matched, copiesOf, Rates}
 use Rattle.pattern.specs.Closed.{sentBefore}
@@ -17,39 +18,44 @@ use Rattle.pattern.proofs.MatchedLaws.{sent-all, sent-more, length-shared, shar
 use Rattle.pattern.proofs.SourceLaws.{sent-up}
 use Rattle.pattern.proofs.SegmentLaws.{shared-by}
 use Rattle.joining.specs.declared.Heard.{Heard}
-use Rattle.joining.specs.declared.Heard.the-variants.{Once}
+use Rattle.joining.specs.declared.Heard.the-variants.{Nothing, Once}
 use Rattle.joining.specs.Joining.{joinOf, valueOf, heardOf, homeOf}
 
 -- the values that bits get by their shares of the values sent
 abbrev pub homes : List (List Float) → List Float
 homes ls = map valueOf (map joinOf ls)
 
--- one value for each bit
+-- one for each bit
+pub length-heard : (d : ℤ) (N e : ℕ) (vs : List Float) → length (heardOf d N e vs) ≡ N
+unfolding heardOf
+length-heard d N e vs = simp length-map (length-shared d N e vs)
+
 pub length-home : (d : ℤ) (N e : ℕ) (vs : List Float) → length (homeOf d N e vs) ≡ N
-unfolding heardOf homeOf
-length-home d N e vs = simp length-map (length-shared d N e vs)
+unfolding homeOf
+length-home d N e vs = simp length-map (length-heard d N e vs)
 
-homes-at : (ls : List (List Float)) (j : ℕ) (z : Float) → j < length ls → getD (homes ls) j z ≡ valueOf (joinOf (getD ls j []))
-homes-at [] j z h = absurd (omega arith)
-homes-at (l ∷ ls) zero z h = refl
-homes-at (l ∷ ls) (suc j) z h = homes-at ls j z (omega arith)
+-- what was heard of bit j, from 0, and the value that it gets, by its share of the values
+pub heard-shared : (d : ℤ) (N e j : ℕ) (vs : List Float) → j < N → getD (heardOf d N e vs) j Nothing ≡ joinOf (getD (shared d N e vs) j [])
+unfolding heardOf
+heard-shared d N e j vs h = map-at joinOf (shared d N e vs) j Nothing [] (omega (arith, length-shared d N e vs))
 
-shared-home : (d : ℤ) (N e j : ℕ) (vs : List Float) (z : Float) → j < N
+pub home-shared : (d : ℤ) (N e j : ℕ) (vs : List Float) (z : Float) → j < N
     → getD (homeOf d N e vs) j z ≡ valueOf (joinOf (getD (shared d N e vs) j []))
-unfolding heardOf homeOf
-shared-home d N e j vs z h = homes-at (shared d N e vs) j z (omega (arith, length-shared d N e vs))
+unfolding homeOf
+home-shared d N e j vs z h =
+    map-at valueOf (heardOf d N e vs) j z Nothing (omega (arith, length-heard d N e vs)) ∙ ap valueOf (heard-shared d N e j vs h)
 
 -- bit j, from 0, gets the joined values of its own copies, which stand together
 pub home-at : (d : ℤ) (N W e j : ℕ) (vs : List Float) (z : Float) → Rates d N W e → j < N
     → getD (homeOf d N e vs) j z ≡ valueOf (joinOf (take (copiesOf d N e j) (drop (sentBefore d N e j) vs)))
-home-at d N W e j vs z r h = shared-home d N e j vs z h ∙ ap (λ (l : List Float). valueOf (joinOf l)) (shared-at d N W e j vs r h)
+home-at d N W e j vs z r h = home-shared d N e j vs z h ∙ ap (λ (l : List Float). valueOf (joinOf l)) (shared-at d N W e j vs r h)
 
 -- where copy c of x came as f x c, it gets the join of f x 0, f x 1, .. of its own x
 pub home-matched : {A : Type 0} (f : A → ℕ → Float) (d : ℤ) (e j : ℕ) (xs : List A) (a : A) (z : Float) → j < length xs
     → getD (homeOf d (length xs) e (matched f d (length xs) e xs)) j z
     ≡ valueOf (joinOf (table (f (getD xs j a)) 0 (copiesOf d (length xs) e j)))
 home-matched f d e j xs a z h =
-    shared-home d (length xs) e j (matched f d (length xs) e xs) z h
+    home-shared d (length xs) e j (matched f d (length xs) e xs) z h
     ∙ ap (λ (l : List Float). valueOf (joinOf l)) (shared-matched f d e j xs a h)
 
 -- bit j by itself, its values found without a walk: those from a up to b

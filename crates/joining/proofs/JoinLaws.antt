@@ -1,6 +1,6 @@
 -- Laws of the copies of one bit as a loop joins them.
 use mathlib.Core.Path.{_≡_, refl, sym, ap, _∙_}
-use mathlib.Core.List.{List, [], _∷_, foldl}
+use mathlib.Core.List.{List, [], _∷_}
 use Prim.Native.Nat.{ℕ, zero, suc, _+_, _-_, _≤_, _<_}
 use native.Mathlib.Numerals.{add-one}
 use native.Mathlib.Omega.{arith}
@@ -8,11 +8,11 @@ use lib.ListN.{length, take, drop, getD, length-drop}
 use lib.Seq.{drop-cons, length-take-le}
 use lib.Ieee.{Float, nan, binary32, add}
 use Rattle.joining.specs.declared.Heard.the-variants.{Nothing, Once, Joined}
-use Rattle.joining.specs.Joining.{joinOf}
+use Rattle.joining.specs.Joining.{sumOf, joinOf}
 
 -- a, and the values from i up to `end` added to it in order
 abbrev pub summed : List Float → Float → ℕ → ℕ → Float
-summed l a i end = foldl (add binary32) a (take (end - i) (drop i l))
+summed l a i end = sumOf a (take (end - i) (drop i l))
 
 module _ (l : List Float) where
   -- a part without its first
@@ -22,8 +22,8 @@ module _ (l : List Float) where
   pub sum-turn : (i end : ℕ) (a : Float) → i < end → end ≤ length l → summed l a i end ≡ summed l (add binary32 a (getD l i nan)) (i + 1) end
   sum-turn i end a h k =
       let n : end - i ≡ suc (end - (i + 1)) = omega arith in
-      ap (λ (m : ℕ). foldl (add binary32) a (take m (drop i l))) n
-      ∙ ap (λ (t : List Float). foldl (add binary32) a t) (part-cons i (end - (i + 1)) (omega arith))
+      ap (λ (m : ℕ). sumOf a (take m (drop i l))) n
+      ∙ ap (λ (t : List Float). sumOf a t) (part-cons i (end - (i + 1)) (omega arith))
 
   pub sum-end : (i end : ℕ) (a : Float) → end ≤ i → summed l a i end ≡ a
   sum-end i end a h = let n : end - i ≡ 0 = omega arith in rw n
@@ -45,8 +45,8 @@ module _ (l : List Float) where
       ap (λ (j : ℕ). joinOf (take j (drop i l))) nm
       ∙ ap joinOf (part-cons i m (omega arith))
       ∙ many (getD l i nan) t (omega arith)
-      ∙ ap (λ (j : ℕ). Joined (foldl (add binary32) (getD l i nan) t) j) (ap suc len ∙ sym nm)
+      ∙ ap (λ (j : ℕ). Joined (sumOf (getD l i nan) t) j) (ap suc len ∙ sym nm)
     where
-      many : (x : Float) (ys : List Float) → 0 < length ys → joinOf (x ∷ ys) ≡ Joined (foldl (add binary32) x ys) (suc (length ys))
+      many : (x : Float) (ys : List Float) → 0 < length ys → joinOf (x ∷ ys) ≡ Joined (sumOf x ys) (suc (length ys))
       many x [] h = absurd (omega arith)
       many x (y ∷ ys) h = unfold joinOf in refl

@@ -4,3 +4,6 @@ pub mod PlaceLaws
 pub mod FillLaws
 pub mod LinkLaws
 pub mod Example
+pub mod WholeLaws
+pub mod CopyLaws
+pub mod BoundLaws

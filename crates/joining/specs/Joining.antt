@@ -9,12 +9,15 @@ use Rattle.pattern.specs.Pattern.{shared}
 use Rattle.joining.specs.declared.Heard.{Heard}
 use Rattle.joining.specs.declared.Heard.the-variants.{Nothing, Once, Joined}
 
--- "A bit sent once keeps its value bit for bit. Copies are added in the order copy 0, 1, 2, .., each sum rounded once": the sum starts from
--- copy 0 itself, never from zero, which would turn a lone -0.0 into +0.0
+-- "Copies are added in the order copy 0, 1, 2, .., each sum rounded once": a, and each of the others added to it
+abbrev pub sumOf : Float → List Float → Float
+sumOf a xs = foldl (add binary32) a xs
+
+-- "A bit sent once keeps its value bit for bit": the sum starts from copy 0 itself, never from zero, which would turn a lone -0.0 into +0.0
 unfoldable pub joinOf : List Float → Heard
 joinOf [] = Nothing
 joinOf (x ∷ []) = Once x
-joinOf (x ∷ (y ∷ ys)) = Joined (foldl (add binary32) x (y ∷ ys)) (length (x ∷ (y ∷ ys)))
+joinOf (x ∷ (y ∷ ys)) = Joined (sumOf x (y ∷ ys)) (length (x ∷ (y ∷ ys)))
 
 abbrev pub plusZero : Float
 plusZero = fin false 0 (pos 0)

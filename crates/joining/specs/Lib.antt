@@ -1,3 +1,4 @@
 pub mod Joining
 pub mod Range
 pub mod Linked
+pub mod Whole

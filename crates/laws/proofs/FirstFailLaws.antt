@@ -1,13 +1,13 @@
 -- Laws of the first element that fails a test, as a loop looks for it.
-use mathlib.Core.Path.{_≡_, ap, _∙_}
+use mathlib.Core.Path.{_≡_, refl, ap, _∙_}
 use mathlib.Core.Bool.{Bool, true, false, cond}
-use mathlib.Core.List.{List}
-use Prim.Native.Nat.{ℕ, suc, _+_, _<_}
+use mathlib.Core.List.{List, [], _∷_}
+use Prim.Native.Nat.{ℕ, zero, suc, _+_, _<_}
 use native.Mathlib.Numerals.{add-one}
 use native.Mathlib.Omega.{arith}
-use lib.ListN.{length, getD, drop}
+use lib.ListN.{length, getD, take, drop}
 use lib.Seq.{drop-cons, drop-length}
-use Rattle.laws.specs.FirstFail.{firstFail}
+use Rattle.laws.specs.FirstFail.{firstFail, NoneFails}
 
 module _ {A : Type 0} (ok : A → Bool) where
   -- element i passes: look on behind it
@@ -30,3 +30,31 @@ module _ {A : Type 0} (ok : A → Bool) where
   pub fail-none : (xs : List A) (i : ℕ) → i ≡ length xs → firstFail ok xs ≡ i + firstFail ok (drop i xs) → i ≡ firstFail ok xs
   unfolding firstFail
   fail-none xs i l h = omega (arith, h, ap (λ (k : ℕ). firstFail ok (drop k xs)) l, ap (firstFail ok) (drop-length xs))
+
+  -- none fails: of a list that begins with x, and of a part of a list
+  pub none-first : (x : A) (xs : List A) → NoneFails ok (x ∷ xs) → ok x ≡ true
+  unfolding firstFail
+  none-first x xs h = go (ok x) refl
+    where
+      go : (b : Bool) → ok x ≡ b → ok x ≡ true
+      go true e = e
+      go false e = absurd (omega (arith, rw e at h))
+
+  pub none-rest : (x : A) (xs : List A) → NoneFails ok (x ∷ xs) → NoneFails ok xs
+  unfolding firstFail
+  none-rest x xs h = omega (arith, rw (none-first x xs h) at h)
+
+  none-cons : (x : A) (xs : List A) → ok x ≡ true → NoneFails ok xs → NoneFails ok (x ∷ xs)
+  unfolding firstFail
+  none-cons x xs e h = rw e (ap suc h)
+
+  pub none-take : (n : ℕ) (xs : List A) → NoneFails ok xs → NoneFails ok (take n xs)
+  unfolding firstFail
+  none-take zero xs h = refl
+  none-take (suc n) [] h = refl
+  none-take (suc n) (x ∷ xs) h = none-cons x (take n xs) (none-first x xs h) (none-take n xs (none-rest x xs h))
+
+  pub none-drop : (n : ℕ) (xs : List A) → NoneFails ok xs → NoneFails ok (drop n xs)
+  none-drop zero xs h = h
+  none-drop (suc n) [] h = h
+  none-drop (suc n) (x ∷ xs) h = none-drop n xs (none-rest x xs h)
