@@ -6,7 +6,6 @@ use Prim.Native.Nat.{ℕ, zero, suc, _+_, _-_, _*_, _^_, _≤_, _<_}
 use native.Mathlib.Nat.{le-trans, le-of-eq, lt-of-lt-of-le, add-mul, mul-assoc, mul-comm, mul-one, mul-pos, mul-right-comm, mul-le-mul-right, le-of-mul-le-mul-right, zero-lt-suc}
 use native.Mathlib.Omega.{arith}
 use lib.Dec.{T, lit≤, ltb, eqb, ltb→lt, eqb→eq}
-use lib.IntN.{ℤ, pos}
 use lib.Pow.{shl-lt}
 use lib.ListN.{length}
 use lib.Ieee.{Float, nan, inf, fin, Format, binary32, prec, emax, low, up, down, odd, units, round, sum, add, neg, le}
@@ -23,7 +22,7 @@ use Rattle.joining.specs.Whole.{Under}
 -- ---- a rounded value by its sign
 
 -- not a NaN, and of sign +
-abbrev Plus : Float → Type 0
+abbrev pub Plus : Float → Type 0
 Plus nan = ⊥
 Plus (inf s) = s ≡ false
 Plus (fin s m e) = s ≡ false
@@ -42,7 +41,7 @@ unfolding units
 plus-units f q k =
     plus-cond (ltb (q * 2 ^ k) (2 ^ (low f + suc (emax f)))) (odd (suc (prec f)) false q k (low f)) (plus-odd (suc (prec f)) q k (low f))
 
-plus-round : (f : Format) (a c : ℕ) → Plus (round f false a c)
+pub plus-round : (f : Format) (a c : ℕ) → Plus (round f false a c)
 plus-round f a c = rw (round-is f false a c) (plus-units f _ _)
 
 neg-odd : (d q k l : ℕ) → odd d true q k l ≡ neg (odd d false q k l)
@@ -76,7 +75,7 @@ or-case : (a b : Bool) {C : Type 0} → (T a → C) → (T b → C) → T (a || 
 or-case true b f g t = f tt
 or-case false b f g t = g t
 
-le-nat : (a b : ℕ) (r : Bool) → T (ltb a b || (eqb a b && r)) → a ≤ b
+pub le-nat : (a b : ℕ) (r : Bool) → T (ltb a b || (eqb a b && r)) → a ≤ b
 le-nat a b r = or-case (ltb a b) (eqb a b && r) (λ t. omega (arith, ltb→lt a b t)) (λ t. le-of-eq (eqb→eq a b (and-l (eqb a b) r t)))
 
 le-nat′ : (a b : ℕ) (r : Bool) → T (ltb b a || (eqb a b && r)) → b ≤ a
@@ -122,7 +121,8 @@ under-cond : (b : Bool) (x y : Float) (n : ℕ) → Under x n → Under y n → 
 under-cond true x y n u v = u
 under-cond false x y n u v = v
 
-sum-under : (s : Bool) (a : ℕ) (t : Bool) (b c q : ℕ) → 0 < c → a + b ≤ q * 65536 * c → q < 2 ^ 24 → Under (sum binary32 s a t b c) (q * 65536)
+sum-under : (s : Bool) (a : ℕ) (t : Bool) (b c q : ℕ) → 0 < c → a + b ≤ q * 65536 * c → q < 2 ^ 24
+    → Under (sum binary32 s a t b c) (q * 65536)
 unfolding sum
 sum-under s a t b c q p h l =
     let more = round binary32 t (b - a) c in
@@ -143,7 +143,8 @@ add-under (fin s m e) (fin t n d) a b u v l =
     let c = down e * down d in
     let A : m * up e * down d ≤ a * 65536 * c = le-trans (mul-le-mul-right (down d) u) (le-of-eq (mul-assoc (a * 65536) (down e) (down d))) in
     let swap = ap (λ (k : ℕ). b * 65536 * k) (mul-comm (down d) (down e)) in
-    let B : n * up d * down e ≤ b * 65536 * c = le-trans (mul-le-mul-right (down e) v) (le-of-eq (mul-assoc (b * 65536) (down d) (down e) ∙ swap)) in
+    let B : n * up d * down e ≤ b * 65536 * c =
+    le-trans (mul-le-mul-right (down e) v) (le-of-eq (mul-assoc (b * 65536) (down d) (down e) ∙ swap)) in
     let S : (a + b) * 65536 * c ≡ a * 65536 * c + b * 65536 * c =
     ap (λ (k : ℕ). k * c) (add-mul a b 65536) ∙ add-mul (a * 65536) (b * 65536) c in
     sum-under s (m * up e * down d) t (n * up d * down e) c (a + b) (mul-pos (down-pos e) (down-pos d)) (omega arith) l

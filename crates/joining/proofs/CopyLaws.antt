@@ -1,13 +1,12 @@
 -- Bits sent as +1 for 0 and -1 for 1: their copies joined.
-use mathlib.Core.Path.{_≡_, refl, sym, ap, _∙_, subst}
+use mathlib.Core.Path.{_≡_, refl, ap, _∙_}
 use mathlib.Core.Bool.{Bool, true, false}
-use mathlib.Core.List.{List, [], _∷_}
+use mathlib.Core.List.{List}
 use Prim.Native.Nat.{ℕ, zero, suc, _+_, _^_, _≤_, _<_}
 use native.Mathlib.Omega.{arith}
 use lib.IntN.{ℤ, pos}
 use lib.ListN.{length, getD}
-use lib.Ieee.{Float, fin, binary32, round, sum, add, ofInt}
-use lib.Ieee.Exact.{HasValue}
+use lib.Ieee.{Float, fin, binary32, round, add, ofInt}
 use lib.Ieee.Back.{round-whole, whole-unique}
 use lib.Ieee.Fits.{add-fits, round-fits}
 use Rattle.laws.specs.Tables.{table}
@@ -17,7 +16,7 @@ use Rattle.pattern.specs.Pattern.{matched, copiesOf, Rates}
 use Rattle.pattern.specs.Closed.{sentBefore}
 use Rattle.pattern.proofs.MatchedLaws.{sent-all, sent-more}
 use Rattle.pattern.proofs.SourceLaws.{sent-up}
-use Rattle.joining.specs.Joining.{sumOf, joinOf, plusZero, valueOf, homeOf}
+use Rattle.joining.specs.Joining.{sumOf, joinOf, valueOf, homeOf}
 use Rattle.joining.specs.Whole.{soft, counted}
 use Rattle.joining.proofs.HomeLaws.{home-matched}
 use Rattle.joining.proofs.WholeLaws.{add-is, same-sum}
@@ -30,7 +29,8 @@ one-more s j h =
     let j1 : j + 1 ≡ suc j = omega arith in
     let r = round binary32 s j 1 in
     let is = add-is binary32 r (one s) s j s 1 (round-whole binary32 s j (omega arith)) (refl, refl) in
-    whole-unique binary32 (add binary32 r (one s)) (round binary32 s (suc j) 1) s (suc j) (add-fits binary32 r (one s)) (round-fits binary32 s (suc j) 1)
+    whole-unique binary32 (add binary32 r (one s)) (round binary32 s (suc j) 1) s (suc j)
+    (add-fits binary32 r (one s)) (round-fits binary32 s (suc j) 1)
     (rw (is, ← j1) (same-sum binary32 s j 1 (omega arith)))
     (round-whole binary32 s (suc j) h)
 
@@ -77,7 +77,8 @@ copies-few d N W e j r h =
 
 -- a segment of bits that was sent so comes home so
 pub home-copies : (d : ℤ) (W e j : ℕ) (bits : List ℕ) (z : Float) → Rates d (length bits) W e → W ≤ mostBits → j < length bits
-    → getD (homeOf d (length bits) e (matched (λ b c. soft b) d (length bits) e bits)) j z ≡ counted (getD bits j 0) (copiesOf d (length bits) e j)
+    → getD (homeOf d (length bits) e (matched (λ b c. soft b) d (length bits) e bits)) j z
+    ≡ counted (getD bits j 0) (copiesOf d (length bits) e j)
 home-copies d W e j bits z r w h =
     home-matched (λ b c. soft b) d e j bits 0 z h
     ∙ join-copies (getD bits j 0) (copiesOf d (length bits) e j) (omega (arith, copies-few d (length bits) W e j r h))

@@ -1,14 +1,14 @@
 -- Values of document 01, computed: N = 6 and e = 1, sent as D = 8 and as D = 4 values; and the order and the rounding of three copies.
 use mathlib.Core.Path.{_≡_, refl}
 use mathlib.Core.Bool.{true, false}
-use mathlib.Core.List.{List, [], _∷_}
-use Prim.Native.Nat.{ℕ}
+use mathlib.Core.List.{[], _∷_}
 use lib.Count.{trailingZeros}
 use lib.IntN.{pos, negsuc}
 use lib.Ieee.{Float, fin, span, climb, size, odd, units, round, sum, add, lt}
 use Rattle.pattern.specs.Pattern.{again, grown, sharedFrom, shared}
 use Rattle.joining.specs.declared.Heard.the-variants.{Nothing, Once, Joined}
 use Rattle.joining.specs.Joining.{joinOf, plusZero, valueOf, heardOf, homeOf}
+use Rattle.joining.proofs.ZeroLaws.{minusZero}
 use Rattle.joining.specs.Linked.{magnitudeOf, magnitudes, punctures, chosen, linkOf}
 
 -- 1, 2.5, 3, -3, 3.5 and -0.0; 2^24, above which a float has no odd number, and the next above it
@@ -26,9 +26,6 @@ minusThree = fin true 3 (pos 0)
 
 abbrev threeHalf : Float
 threeHalf = fin false 7 (negsuc 0)
-
-abbrev minusZero : Float
-minusZero = fin true 0 (pos 0)
 
 abbrev wide : Float
 wide = fin false 1 (pos 24)

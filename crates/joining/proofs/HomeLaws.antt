@@ -5,14 +5,14 @@ use mathlib.Core.List.{List, [], _∷_, map}
 use Prim.Native.Nat.{ℕ, zero, suc, _+_, _*_, _-_, _≤_, _<_}
 use native.Mathlib.Numerals.{add-one}
 use native.Mathlib.Omega.{arith}
-use lib.IntN.{ℤ, pos}
+use lib.IntN.{ℤ}
 use lib.ListN.{length, getD, take, drop, length-map}
 use lib.Ieee.{Float}
 use Rattle.laws.specs.Tables.{table}
 use Rattle.laws.proofs.LeastLaws.{rises}
 use Rattle.laws.proofs.PartLaws.{map-at}
 use Rattle.matching.specs.Signed.{signedBy}
-use Rattle.pattern.specs.Pattern.{again, grown, after, copiesAt, sharedFrom, shared, matched, copiesOf, Rates}
+use Rattle.pattern.specs.Pattern.{again, grown, after, sharedFrom, shared, matched, copiesOf, Rates}
 use Rattle.pattern.specs.Closed.{sentBefore}
 use Rattle.pattern.proofs.MatchedLaws.{sent-all, sent-more, length-shared, shared-at, shared-matched}
 use Rattle.pattern.proofs.SourceLaws.{sent-up}

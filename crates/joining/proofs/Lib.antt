@@ -7,3 +7,5 @@ pub mod Example
 pub mod WholeLaws
 pub mod CopyLaws
 pub mod BoundLaws
+pub mod ZeroLaws
+pub mod ValueLaws

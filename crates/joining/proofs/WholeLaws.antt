@@ -1,6 +1,6 @@
 -- Whole floats: where every soft value is whole and small, a joined value is the exact whole sum.
 use mathlib.Core.Path.{_≡_, refl, sym, ap, ap₂, _∙_, subst}
-use mathlib.Core.Bool.{Bool, true, false, cond, _&&_, Bool·beq}
+use mathlib.Core.Bool.{Bool, true, false, cond, _&&_}
 use mathlib.Core.List.{List, [], _∷_, map}
 use mathlib.Core.Logic.{_⊎_, inl, inr}
 use Prim.Native.Nat.{ℕ, zero, suc, _+_, _-_, _*_, _/_, _%_, _^_, _≤_, _<_}
@@ -20,7 +20,7 @@ use Rattle.laws.proofs.FirstFailLaws.{none-first, none-rest}
 use Rattle.sheet.specs.Counts.{mostBits}
 use Rattle.matching.specs.Signed.{signedBy}
 use Rattle.pattern.proofs.SegmentLaws.{magnitude}
-use Rattle.joining.specs.Joining.{sumOf, joinOf, plusZero, valueOf}
+use Rattle.joining.specs.Joining.{sumOf, joinOf, valueOf}
 use Rattle.joining.specs.Whole.{Whole, smallWhole, wholeOf, total}
 
 -- ---- integers
@@ -49,7 +49,7 @@ abs-add (pos a) (negsuc b) = abs-sub a (suc b)
 abs-add (negsuc a) (pos b) = omega (arith, abs-sub b (suc a))
 abs-add (negsuc a) (negsuc b) = omega arith
 
-sub-mul : (a b c : ℕ) → (a - b) * c ≡ a * c - b * c
+pub sub-mul : (a b c : ℕ) → (a - b) * c ≡ a * c - b * c
 sub-mul a b c = mul-comm (a - b) c ∙ mul-sub c a b ∙ ap₂ _-_ (mul-comm c a) (mul-comm c b)
 
 -- ---- a sum over one denominator is the sum of the numerators over 1
@@ -86,7 +86,8 @@ right : (n : ℕ) (d e : ℤ) (b : ℕ) → n * up d * 1 ≡ b * down d → n * 
 right n d e b h = left n d e b h ∙ ap (λ (k : ℕ). b * k) (mul-comm (down d) (down e))
 
 -- two whole floats are added as their numbers are
-pub add-is : (f : Format) (x y : Float) (s : Bool) (a : ℕ) (t : Bool) (b : ℕ) → HasValue x s a 1 → HasValue y t b 1 → add f x y ≡ sum f s a t b 1
+pub add-is : (f : Format) (x y : Float) (s : Bool) (a : ℕ) (t : Bool) (b : ℕ) → HasValue x s a 1 → HasValue y t b 1
+    → add f x y ≡ sum f s a t b 1
 unfolding add
 add-is f (fin p m e) (fin q n d) s a t b v w =
     ap₂ (λ (j k : ℕ). sum f p j q k (down e * down d)) (left m e d a (v .1)) (right n d e b (w .1))
@@ -108,7 +109,8 @@ whole-sum f false a false b h = rounded f false (a + b) (pos a +ℤ pos b) h ref
 whole-sum f true a true b h = rounded f true (a + b) (negℤ (pos a) +ℤ negℤ (pos b)) h (negℤ-+ℤ (pos a) (pos b))
 whole-sum f false a true b h = go (by (ltb a b))
   where
-    go : (ltb a b ≡ true) ⊎ (ltb a b ≡ false) → Whole (cond (ltb a b) (round f true (b - a) 1) (round f false (a - b) 1)) (pos a +ℤ negℤ (pos b))
+    go : (ltb a b ≡ true) ⊎ (ltb a b ≡ false)
+        → Whole (cond (ltb a b) (round f true (b - a) 1) (round f false (a - b) 1)) (pos a +ℤ negℤ (pos b))
     go (inl e) = rw e (rounded f true (b - a) (pos a +ℤ negℤ (pos b)) (omega arith) (sym (diff-lt a b (ltb-true a b e))))
     go (inr e) = rw e (rounded f false (a - b) (pos a +ℤ negℤ (pos b)) (omega arith) (sym (diff-ge a b (ltb-false a b e))))
 whole-sum f true a false b h = go (by (ltb a b)) (by (ltb b a))
