@@ -1,10 +1,11 @@
 -- Laws of the first element that fails a test, as a loop looks for it.
 use mathlib.Core.Path.{_≡_, refl, ap, _∙_}
-use mathlib.Core.Bool.{Bool, true, false, cond}
+use mathlib.Core.Bool.{Bool, true, false, cond, _&&_}
 use mathlib.Core.List.{List, [], _∷_}
 use Prim.Native.Nat.{ℕ, zero, suc, _+_, _<_}
 use native.Mathlib.Numerals.{add-one}
 use native.Mathlib.Omega.{arith}
+use lib.Dec.{eqb, eqb·zero-suc, eqb·suc-suc}
 use lib.ListN.{length, getD, take, drop}
 use lib.Seq.{drop-cons, drop-length}
 use Rattle.laws.specs.FirstFail.{firstFail, NoneFails}
@@ -58,3 +59,14 @@ module _ {A : Type 0} (ok : A → Bool) where
   none-drop zero xs h = h
   none-drop (suc n) [] h = h
   none-drop (suc n) (x ∷ xs) h = none-drop n xs (none-rest x xs h)
+
+  -- the same as a test, one element at a time
+  pub none-turn : (xs : List A) (i : ℕ) (d : A) → i < length xs
+      → eqb (firstFail ok (drop i xs)) (length (drop i xs)) ≡ ok (getD xs i d) && eqb (firstFail ok (drop (i + 1) xs)) (length (drop (i + 1) xs))
+  unfolding firstFail
+  none-turn xs i d l = rw (add-one, drop-cons xs i d l) (go (ok (getD xs i d)))
+    where
+      go : (b : Bool) → eqb (cond b (suc (firstFail ok (drop (suc i) xs))) 0) (suc (length (drop (suc i) xs)))
+          ≡ b && eqb (firstFail ok (drop (suc i) xs)) (length (drop (suc i) xs))
+      go true = eqb·suc-suc (firstFail ok (drop (suc i) xs)) (length (drop (suc i) xs))
+      go false = eqb·zero-suc (length (drop (suc i) xs))
