@@ -9,3 +9,4 @@ pub mod CopyLaws
 pub mod BoundLaws
 pub mod ZeroLaws
 pub mod ValueLaws
+pub mod HeardLaws

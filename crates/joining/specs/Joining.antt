@@ -28,6 +28,12 @@ valueOf Nothing = plusZero
 valueOf (Once x) = x
 valueOf (Joined x n) = x
 
+-- and the number of its copies: "nothing, one value, or a joined value with its number of copies"
+unfoldable pub countOf : Heard → ℕ
+countOf Nothing = 0
+countOf (Once x) = 1
+countOf (Joined x n) = n
+
 -- of a segment of N bits, by d and the start e, and the values sent: what was heard of each bit, and the value that each gets
 unfoldable pub heardOf : ℤ → ℕ → ℕ → List Float → List Heard
 heardOf d N e vs = map joinOf (shared d N e vs)
