@@ -10,3 +10,4 @@ pub mod BoundLaws
 pub mod ZeroLaws
 pub mod ValueLaws
 pub mod HeardLaws
+pub mod ExtremeLaws

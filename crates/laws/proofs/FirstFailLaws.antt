@@ -45,7 +45,7 @@ module _ {A : Type 0} (ok : A → Bool) where
   unfolding firstFail
   none-rest x xs h = omega (arith, rw (none-first x xs h) at h)
 
-  none-cons : (x : A) (xs : List A) → ok x ≡ true → NoneFails ok xs → NoneFails ok (x ∷ xs)
+  pub none-cons : (x : A) (xs : List A) → ok x ≡ true → NoneFails ok xs → NoneFails ok (x ∷ xs)
   unfolding firstFail
   none-cons x xs e h = rw e (ap suc h)
 
