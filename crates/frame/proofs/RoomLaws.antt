@@ -1,11 +1,9 @@
 -- Laws of the room that building is lent.
 use mathlib.Core.Path.{_≡_}
-use mathlib.Core.List.{List}
-use Prim.Native.Nat.{ℕ, _+_, _≤_, _<_}
+use Prim.Native.Nat.{ℕ, _≤_}
 use native.Mathlib.Omega.{arith}
-use lib.ListN.{length, getD, take, replicate, length-replicate}
+use lib.ListN.{length, take, replicate, length-replicate}
 use lib.Seq.{length-take-le}
-use Rattle.laws.proofs.TestLaws.{split}
 use Rattle.sheet.specs.Counts.{mostChannels, mostEncoded, mostBits}
 use Rattle.sheet.specs.Sizes.{capacityAll}
 use Rattle.sheet.specs.Range.{Accepted}
@@ -13,6 +11,7 @@ use Rattle.sheet.specs.declared.Sheet.{Sheet}
 use Rattle.opening.specs.Opened.{Opens}
 use Rattle.opening.specs.declared.Opened.{Opened}
 use Rattle.opening.proofs.OpenLaws.{size-is, capacity-most, sizes-most}
+use Rattle.frame.specs.Above.{NoneAbove}
 use Rattle.frame.specs.Room.{Segments, Room}
 
 -- a longer room serves too, and 60,000 serve always
@@ -23,17 +22,8 @@ room-more sh n m r h =
 pub room-most : (sh : Sheet) → Accepted sh → Room sh mostBits
 room-most sh a = record { segments = λ i l. omega (arith, sizes-most sh a i l); places = capacity-most sh a }
 
--- a number that is below none of the N, looked at one after the other, and not below D
-abbrev pub Above : List ℕ → ℕ → ℕ → Type 0
-Above sizes i n = (j : ℕ) → j < i → getD sizes j 0 ≤ n
-
-pub above-next : (sizes : List ℕ) (i n : ℕ) {m : ℕ} → Above sizes i n → n ≤ m → getD sizes i 0 ≤ m → Above sizes (i + 1) m
-above-next sizes i n {m} a p q =
-    λ j l. split i j
-    (λ le. let e : j ≡ i = omega arith in rw e q)
-    (λ lt. omega (arith, a j lt))
-
-pub room-above : (o : Opened) (n : ℕ) → Opens o → Above (o .sizes) mostChannels n → capacityAll (o .fields) ≤ n → Room (o .fields) n
+-- a number that is below none of the N and not below D
+pub room-above : (o : Opened) (n : ℕ) → Opens o → NoneAbove (o .sizes) mostChannels n → capacityAll (o .fields) ≤ n → Room (o .fields) n
 room-above o n h a d =
     record {
       segments = λ i l. omega (arith, size-is o h i l, a i (omega (arith, h .accepted .ranged .eight)));

@@ -2,13 +2,15 @@ use native.Mathlib.Omega.{arith}
 use mathlib.Core.Path.{_≡_, subst}
 use Prim.Native.Nat.{ℕ, _-_, _≤_}
 use Rattle.sheet.specs.Counts.{mostChannels}
-use Rattle.frame.proofs.RoomLaws.{Above, above-next, room-above}
+use Rattle.frame.specs.Above.{NoneAbove}
+use Rattle.frame.proofs.AboveLaws.{above-next}
+use Rattle.frame.proofs.RoomLaws.{room-above}
 use borrow.Author.Needs.{needs}
 use Rattle.frame.proofs.building.room_for.Statement.{statement}
 use Rattle.frame.proofs.building.room_for.Tie as tie
 
 abbrev Inv-loop : tie.InvT-loop
-Inv-loop sizes most₀ i₀ most i = (i ≤ mostChannels) × (most₀ ≤ most) × Above sizes i most
+Inv-loop sizes most₀ i₀ most i = (i ≤ mostChannels) × (most₀ ≤ most) × NoneAbove sizes i most
 
 abbrev μ-loop : tie.MeasureT-loop
 μ-loop sizes most₀ i₀ most i = mostChannels - i
@@ -45,7 +47,7 @@ returns c =
     let l = c .before .loop in
     let s = c .before .before .before .before in
     let e : l .i ≡ mostChannels = omega (arith, l .inv .0) in
-    room-above (s .args .opened) (l .most) (s .pre) (subst (λ (k : ℕ). Above (s .args .opened .sizes) k (l .most)) e (l .inv .2)) (omega (arith, l .inv .1, c .before .before .capacity .ensures .0))
+    room-above (s .args .opened) (l .most) (s .pre) (subst (λ (k : ℕ). NoneAbove (s .args .opened .sizes) k (l .most)) e (l .inv .2)) (omega (arith, l .inv .1, c .before .before .capacity .ensures .0))
 
 pub room-for-spec : {M : Type 1} → statement M
 room-for-spec =
