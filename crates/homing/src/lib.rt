@@ -1,0 +1,1 @@
+// Coming home: a received frame gathered, taken back and finished.
