@@ -1,1 +1,2 @@
 // Coming home: a received frame gathered, taken back and finished.
+pub mod gathering;
