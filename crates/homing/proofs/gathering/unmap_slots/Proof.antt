@@ -129,7 +129,7 @@ loop-again c =
     let u = k .slot-length .result in
     let y = m .unmap-slot .ensures in
     let g = y ∙ slot-taken nan f (l .t) b (l .inv .1) (k .slot-length .ensures) (k2 .count2 .ensures .0) in
-    let n : length (m .unmap-slot .last .1 .1 .0) ≡ l .a + u - l .a = ap length g ∙ length-taken nan f (s .pre .0) b (l .t) (omega arith) ∙ omega (arith, k .slot-length .ensures) in
+    let n : length (m .unmap-slot .last .1 .1 .0) ≡ l .a + u - l .a = ap length g ∙ length-taken nan f (s .pre .0) (l .t) (slotPart f (l .t) b) (omega arith) ∙ omega (arith, k .slot-length .ensures) in
     let d = one-more (λ k. bitsOf (capsOf f k) nan (slotPart f k b)) (s .args .out .now) (l .out) (l .a) (l .a + u) (l .t) (l .inv .3) (omega arith) n g in
     (omega arith, slot-next f (l .t) (l .inv .1) (k .slot-length .ensures), laid-long _ _ _ _ d (omega (arith, end k)), d)
 
