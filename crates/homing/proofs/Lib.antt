@@ -1,2 +1,3 @@
 pub mod GatherLaws
 pub mod Taken
+pub mod Labelled
