@@ -1,3 +1,4 @@
 pub mod GatherLaws
 pub mod Taken
 pub mod Labelled
+pub mod Homed
