@@ -2,3 +2,5 @@ pub mod GatherLaws
 pub mod Taken
 pub mod Labelled
 pub mod Homed
+pub mod Among
+pub mod Exact
