@@ -4,3 +4,5 @@ pub mod Labelled
 pub mod Homed
 pub mod Among
 pub mod Exact
+pub mod Kept
+pub mod WholeTti

@@ -60,15 +60,6 @@ module _ (sh : Sheet) where
   pub turn-below : (number i : ℕ) → number % framesOf sh i < framesOf sh i
   turn-below number i = mod-lt number (pow-pos (ttiOf sh i))
 
-  pub spot-below : (i n m : ℕ) → i < sh .channels → n < framesOf sh i → m < sizeOf sh i → spotOf i n m < equalisedAll sh
-  unfolding channelStart
-  spot-below i n m l hn hm =
-      omega (
-        arith,
-        digits-lt {q = n} {m = framesOf sh i} {r = m} {c = sizeOf sh i} hn hm,
-        sum-within (equalisedOf sh) i (sh .channels) l,
-      )
-
   pub spots-apart : (i n m j k o : ℕ) → n < framesOf sh i → m < sizeOf sh i → k < framesOf sh j → o < sizeOf sh j
       → spotOf i n m ≡ spotOf j k o → (i ≡ j) × (n ≡ k)
   unfolding channelStart
@@ -87,16 +78,19 @@ module _ (sh : Sheet) where
       )
 
   -- a segment lies within the buffer, and no two have a position in common
-  pub segment-below : (number i : ℕ) → i < sh .channels → segmentStart sh number i + sizeOf sh i ≤ equalisedAll sh
-  unfolding segmentStart channelStart
-  segment-below number i l =
-      let n = number % framesOf sh i in
+  pub segment-within : (i n : ℕ) → i < sh .channels → n < framesOf sh i → channelStart sh i + n * sizeOf sh i + sizeOf sh i ≤ equalisedAll sh
+  unfolding channelStart
+  segment-within i n l h =
       omega (
         arith,
         suc-mul n (sizeOf sh i),
-        mul-le-mul-right {m = suc n} {n = framesOf sh i} (sizeOf sh i) (turn-below number i),
+        mul-le-mul-right {m = suc n} {n = framesOf sh i} (sizeOf sh i) h,
         sum-within (equalisedOf sh) i (sh .channels) l,
       )
+
+  pub segment-below : (number i : ℕ) → i < sh .channels → segmentStart sh number i + sizeOf sh i ≤ equalisedAll sh
+  unfolding segmentStart
+  segment-below number i l = segment-within i (number % framesOf sh i) l (turn-below number i)
 
   segments-apart : (number i m j o : ℕ) → m < sizeOf sh i → o < sizeOf sh j → segmentStart sh number i + m ≡ segmentStart sh number j + o → i ≡ j
   unfolding segmentStart
