@@ -1,7 +1,7 @@
 -- S8 for one frame: whole sums are exact, no joined value is a NaN or infinite, and one is -0.0 only where all its copies are.
 use mathlib.Core.Path.{_≡_, sym, ap, _∙_, subst}
 use mathlib.Core.Bool.{Bool, true, false, false≢true}
-use mathlib.Core.List.{List, [], _∷_, map}
+use mathlib.Core.List.{List, _∷_, map}
 use Prim.Native.Nat.{ℕ, zero, suc, _*_, _≤_, _<_}
 use native.Mathlib.Omega.{arith}
 use lib.Ieee.{Float, nan, binary32, fits, isNan}
@@ -56,7 +56,7 @@ module _ (sh : Sheet) (ok : Accepted sh) (number i m : ℕ) (l : i < sh .channel
   few : (frame : List Float) → length (heardIn sh i frame) ≤ mostBits
   few frame = omega (arith, length-heard-in sh ok i l frame, shares-most sh ok i l)
 
-  -- "A soft value is from -65,536 to 65,536": then each joined value is finite, and at most 65,536 for each value heard of the channel
+  -- of soft values from -65,536 to 65,536 each joined value is finite: at most 65,536 for each value heard of the channel in magnitude
   pub home-finite : (frame : List Float) (d : Float) → length frame ≡ capacityAll sh → NoneFails inRange frame
       → Under (getD (segmentHome sh number i frame) m d) (shareOf sh i * 65536)
   unfolding segmentHome
@@ -83,12 +83,13 @@ module _ (sh : Sheet) (ok : Accepted sh) (number i m : ℕ) (l : i < sh .channel
         (total (map wholeOf (table (λ c. f (bitName sh number i m c)) 0 (copiesOf (changeOf sh i) (sizeOf sh i) (startAt sh number i) m))))
     unfolding segmentHome
     home-whole d w =
-        subst (λ (s : List Float). Whole (getD (homeOf (changeOf sh i) (sizeOf sh i) (startAt sh number i) (heardIn sh i received)) m d) (total (map wholeOf s)))
+        let home = homeOf (changeOf sh i) (sizeOf sh i) (startAt sh number i) (heardIn sh i received) in
+        subst (λ (s : List Float). Whole (getD home m d) (total (map wholeOf s)))
         (shares-named sh ok number f i m l h)
         (home-exact (changeOf sh i) (sizeOf sh i) (startAt sh number i) m (heardIn sh i received) d
         (heard-passes sh ok i l received smallWhole length-received w) (few received) h)
 
-    -- "-0.0 only where all copies are": of f32 values, where there is a copy at all
+    -- of f32 values, a joined value is -0.0 only where there is a copy and all copies are -0.0
     pub home-minus : (d : Float) → NoneFails (fits binary32) (map f (labelFrame sh number))
         → getD (segmentHome sh number i (map f (labelFrame sh number))) m d ≡ minusZero
         → (0 < copiesOf (changeOf sh i) (sizeOf sh i) (startAt sh number i) m)

@@ -1,7 +1,7 @@
 -- S7: where the soft value at each place is f of its name, each bit of each segment gets the joined f of its own copies 0, 1, .. in order.
 use mathlib.Core.Path.{_≡_, sym, ap, ap₂, _∙_, subst}
 use mathlib.Core.List.{List, [], map}
-use Prim.Native.Nat.{ℕ, suc, _+_, _*_, _%_, _<_}
+use Prim.Native.Nat.{ℕ, _+_, _*_, _%_, _<_}
 use native.Mathlib.Nat.{mul-comm}
 use native.Mathlib.Numerals.{add-one}
 use native.Mathlib.Omega.{arith}
@@ -25,7 +25,7 @@ use Rattle.frame.specs.Frame.{startAt, sentOf, multiplexed, frameOf}
 use Rattle.frame.proofs.FrameLaws.{partOf, turn-inside, sent-matched, length-part, length-sent, channels-begin, length-multiplexed, frame-map}
 use Rattle.naming.specs.Name.{Name, Label, labelAt, labels, named, labelFrame, bitNumber, bitName}
 use Rattle.naming.proofs.Named.{labels-full}
-use Rattle.joining.specs.Joining.{joinOf, valueOf}
+use Rattle.joining.specs.Joining.{plusZero, joinOf, valueOf}
 use Rattle.joining.proofs.HomeLaws.{home-shared}
 use Rattle.homing.specs.Home as Home
 use Rattle.homing.specs.Home.{heardIn, segmentHome, segmentStart, takenBack, heardAt}
@@ -100,7 +100,7 @@ module _ (sh : Sheet) (ok : Accepted sh) (number : ℕ) (f : Name → Float) whe
     unfolding heardAt
     heard-named = ap joinOf shares-named
 
-    -- and the value that it gets: "A punctured bit gets +0.0."
+    -- and the value that it gets
     pub home-named : (d : Float) → getD (segmentHome sh number i (map f (labelFrame sh number))) m d
         ≡ valueOf (joinOf (table (λ c. f (bitName sh number i m c)) 0 (copiesOf (changeOf sh i) (sizeOf sh i) (startAt sh number i) m)))
     unfolding segmentHome
@@ -108,7 +108,19 @@ module _ (sh : Sheet) (ok : Accepted sh) (number : ℕ) (f : Name → Float) whe
         home-shared (changeOf sh i) (sizeOf sh i) (startAt sh number i) m (heardIn sh i (map f (labelFrame sh number))) d h
         ∙ ap (λ (s : List Float). valueOf (joinOf s)) shares-named
 
-    -- in the buffer
+    -- "A bit sent once keeps its value bit for bit."
+    pub home-once : (d : Float) → copiesOf (changeOf sh i) (sizeOf sh i) (startAt sh number i) m ≡ 1
+        → getD (segmentHome sh number i (map f (labelFrame sh number))) m d ≡ f (bitName sh number i m 0)
+    unfolding table joinOf valueOf
+    home-once d q = home-named d ∙ ap (λ (n : ℕ). valueOf (joinOf (table (λ c. f (bitName sh number i m c)) 0 n))) q
+
+    -- "A punctured bit gets +0.0."
+    pub home-none : (d : Float) → copiesOf (changeOf sh i) (sizeOf sh i) (startAt sh number i) m ≡ 0
+        → getD (segmentHome sh number i (map f (labelFrame sh number))) m d ≡ plusZero
+    unfolding table joinOf valueOf
+    home-none d q = home-named d ∙ ap (λ (n : ℕ). valueOf (joinOf (table (λ c. f (bitName sh number i m c)) 0 n))) q
+
+    -- in the buffer; Taken has the positions outside the frame's segments as they were
     pub taken-named : (old : List Float) (d : Float) → length old ≡ equalisedAll sh
         → getD (takenBack sh number (map f (labelFrame sh number)) old) (segmentStart sh number i + m) d
         ≡ valueOf (joinOf (table (λ c. f (bitName sh number i m c)) 0 (copiesOf (changeOf sh i) (sizeOf sh i) (startAt sh number i) m)))

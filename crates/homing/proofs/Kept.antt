@@ -1,7 +1,7 @@
 -- Frames taken back one after the other: a segment stays until a frame with its number mod F comes again.
-use mathlib.Core.Path.{_≡_, refl, sym, ap, _∙_}
+use mathlib.Core.Path.{_≡_, sym, ap, _∙_}
 use mathlib.Core.List.{List}
-use Prim.Native.Nat.{ℕ, zero, suc, _+_, _*_, _%_, _≤_, _<_}
+use Prim.Native.Nat.{ℕ, zero, suc, _+_, _*_, _%_, _<_}
 use native.Mathlib.Decide.{ℕ-discrete}
 use native.Mathlib.Omega.{arith}
 use lib.Arith.{lt-of-le-ne}
@@ -11,7 +11,7 @@ use lib.Seq.{getD-take, getD-drop, ext-getD}
 use Rattle.sheet.specs.Sizes.{framesOf, sizeOf, equalisedAll}
 use Rattle.sheet.specs.declared.Sheet.{Sheet}
 use Rattle.homing.specs.Home.{segmentHome, channelStart, segmentStart, takenBack}
-use Rattle.homing.specs.Received.{Outside, segmentAt, takenAll, LastOf}
+use Rattle.homing.specs.Received.{segmentAt, takenAll, LastOf}
 use Rattle.homing.proofs.Taken.{turn-below, spots-apart, segment-within, length-segment, taken-length, taken-outside, taken-inside}
 
 module _ (sh : Sheet) where
@@ -86,7 +86,8 @@ module _ (sh : Sheet) where
             → (LastOf sh i number count n last → segmentAt sh i n before ≡ segmentHome sh (number last) i (frame last))
             → segmentAt sh i n (takenBack sh (number count) (frame count) before) ≡ segmentHome sh (number last) i (frame last)
         side (yes e) earlier =
-            segment-taken (number count) (frame count) before (length-taken-all count) i l n (ap (λ (t : ℕ). number t % framesOf sh i) (sym e) ∙ w .turn)
+            segment-taken (number count) (frame count) before (length-taken-all count) i l n
+            (ap (λ (t : ℕ). number t % framesOf sh i) (sym e) ∙ w .turn)
             ∙ ap (λ (t : ℕ). segmentHome sh (number t) i (frame t)) (sym e)
         side (no e) earlier =
             let k : last < count = lt-of-le-ne (omega (arith, w .among)) e in

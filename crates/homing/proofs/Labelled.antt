@@ -12,8 +12,9 @@ use Rattle.sheet.specs.Sizes.{capacityAll}
 use Rattle.sheet.specs.Range.{Accepted}
 use Rattle.sheet.specs.declared.Sheet.{Sheet}
 use Rattle.frame.proofs.FrameLaws.{length-frame}
-use Rattle.naming.specs.Name.{Name, named, labels, labelFrame}
-use Rattle.naming.proofs.Named.{labels-full}
+use Rattle.naming.specs.Name.{Name, named, labels, labelFrame, indexOf, nameOf, Exists}
+use Rattle.naming.proofs.Named.{labels-full, names}
+use Rattle.naming.proofs.Places.{index-onto}
 use Rattle.naming.proofs.Nowhere.{labels-apart}
 
 -- ---- the value that stands where a name does, in a list of names and one of values
@@ -79,3 +80,21 @@ labelled sh ok number frame full =
           ∙ looked-at ns frame x o nan (omega arith) (omega arith)
           (λ y l e. let q : y ≡ x = labels-apart sh ok number y x o (omega arith) (omega arith) e in omega arith))),
     )
+
+-- where the soft value at each place is f of the name that is calculated for it
+pub by-names : (sh : Sheet) → Accepted sh → (number : ℕ) (f : Name → Float) (frame : List Float) → length frame ≡ capacityAll sh
+    → ((slot phch place : ℕ) → Exists sh slot phch place
+    → getD frame (indexOf sh slot phch place) nan ≡ f (nameOf sh number slot phch place))
+    → frame ≡ map f (labelFrame sh number)
+by-names sh ok number f frame full at =
+    let ns = labelFrame sh number in
+    let o : Name = record { channel = 0; bit = 0; copy = 0 } in
+    let long = length-labels sh ok number in
+    ext-getD nan frame (map f ns) (full ∙ sym (length-map ns f ∙ long))
+    (λ x h.
+    let a = index-onto sh x (omega arith) in
+    ap (λ (k : ℕ). getD frame k nan) (sym (a .index))
+    ∙ at (a .slot) (a .phch) (a .place) (a .there)
+    ∙ ap f (sym (names sh ok number (a .slot) (a .phch) (a .place) (a .there) o))
+    ∙ ap (λ (k : ℕ). f (getD ns k o)) (a .index)
+    ∙ sym (map-at f ns x nan o (omega arith)))

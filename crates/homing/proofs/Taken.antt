@@ -131,10 +131,10 @@ module _ (sh : Sheet) where
 
         side : Dec (i ≡ n)
             → (i < n → getD (takenTo sh number frame n old) (segmentStart sh number i + m) d ≡ getD (segmentHome sh number i frame) m d)
-            → getD (sets (takenTo sh number frame n old) (segmentStart sh number n) (segmentHome sh number n frame)) (segmentStart sh number i + m) d
+            → getD (takenTo sh number frame (suc n) old) (segmentStart sh number i + m) d
             ≡ getD (segmentHome sh number i frame) m d
         side (yes e) before =
-            ap (λ (j : ℕ). getD (sets (takenTo sh number frame n old) (segmentStart sh number n) (segmentHome sh number n frame)) (segmentStart sh number j + m) d) e
+            ap (λ (j : ℕ). getD (takenTo sh number frame (suc n) old) (segmentStart sh number j + m) d) e
             ∙ sets-inside (segmentHome sh number n frame) (takenTo sh number frame n old) (segmentStart sh number n) m d
             (omega (arith, long, length-segment n, segment-below number n b)) (omega (arith, length-segment n, ap (sizeOf sh) e))
             ∙ ap (λ (j : ℕ). getD (segmentHome sh number j frame) m d) (sym e)

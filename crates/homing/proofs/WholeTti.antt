@@ -2,13 +2,17 @@
 -- -1 for 1 come home as plus or minus the number of copies, exactly, and as +0.0 where punctured."
 use mathlib.Core.Path.{_≡_, refl, sym, ap, ap₂, _∙_, subst}
 use mathlib.Core.Logic.{_↔_}
-use mathlib.Core.List.{List, map}
-use Prim.Native.Nat.{ℕ, zero, suc, _+_, _*_, _/_, _%_, _≤_, _<_}
-use native.Mathlib.Nat.{mod-lt, mod-eq-of-lt, div-add-mod'}
+use mathlib.Core.Bool.{true, false}
+use mathlib.Core.List.{List}
+use Prim.Native.Nat.{ℕ, zero, suc, _+_, _*_, _-_, _/_, _%_, _≤_, _<_}
+use native.Mathlib.Nat.{mod-eq-of-lt, div-add-mod'}
 use native.Mathlib.Omega.{arith}
 use lib.Ieee.{Float, nan, binary32, ofInt, round}
+use lib.Ieee.Back.{round-whole}
 use lib.ListN.{length, getD, take, drop}
 use lib.Seq.{getD-take, getD-drop}
+use Rattle.laws.proofs.TestLaws.{split}
+use Rattle.sheet.specs.Counts.{mostBits}
 use Rattle.sheet.specs.Fields.{ttiOf, encodedOf}
 use Rattle.sheet.specs.Sizes.{framesOf, sizeOf, equalisedOf, encodedAll, equalisedAll}
 use Rattle.sheet.specs.Range.{Accepted}
@@ -18,23 +22,37 @@ use Rattle.orders.proofs.OrderLaws.{frames-bounds, column-swaps}
 use Rattle.matching.specs.Shares.{shareOf, changeOf}
 use Rattle.offset.specs.Offset.{startOf}
 use Rattle.pattern.specs.Pattern.{asIs, matched, copiesOf, Rates}
-use Rattle.interleaving.specs.First.{seat, finished}
+use Rattle.pattern.proofs.SourceLaws.{kept}
+use Rattle.interleaving.specs.First.{seat}
 use Rattle.interleaving.proofs.EqualisedLaws.{segments-hold, equalised-bit}
 use Rattle.interleaving.proofs.FirstLaws.{segment-at}
 use Rattle.interleaving.proofs.FinishLaws.{row-below, seat-below, finished-length, finished-at}
 use Rattle.opening.proofs.OpenLaws.{shares-most}
-use Rattle.frame.specs.Frame.{startAt, contentsOf, bitsOf, bitFrame, frameOf}
+use Rattle.frame.specs.Frame.{startAt, contentsOf, bitsOf, bitFrame}
 use Rattle.frame.proofs.FrameLaws.{partOf, rates, turn-inside, sent-matched, length-part, frame-map}
 use Rattle.frame.proofs.ContentLaws.{length-contents, length-bits}
 use Rattle.naming.specs.Name.{bitNumber, NamedBy}
 use Rattle.naming.proofs.Nowhere.{named-iff}
 use Rattle.joining.specs.Joining.{plusZero, homeOf}
-use Rattle.joining.specs.Whole.{soft, counted}
+use Rattle.joining.specs.Whole.{Whole, soft, counted}
 use Rattle.joining.proofs.CopyLaws.{home-copies}
 use Rattle.homing.specs.Home.{heardIn, segmentHome, channelStart, finishedOf}
-use Rattle.homing.specs.Received.{segmentAt, takenAll, softFrame, Received, LastOf, copiesIn}
+use Rattle.homing.specs.Received.{segmentAt, takenAll, softFrame, Received, LastOf, copiesIn, signedCount}
 use Rattle.homing.proofs.Homed.{heard-sent}
 use Rattle.homing.proofs.Kept.{segment-value, last-taken}
+
+-- ---- plus or minus a number of copies, as a float
+
+counted-none : (b : ℕ) → counted b 0 ≡ plusZero
+unfolding counted ofInt round
+counted-none zero = refl
+counted-none (suc b) = refl
+
+counted-whole : (b c : ℕ) → c ≤ mostBits → Whole (counted b c) (signedCount b c)
+unfolding counted ofInt
+counted-whole zero c h = record { sign = false; size = c; value = round-whole binary32 false c (omega arith); is = refl }
+counted-whole (suc b) zero h = record { sign = false; size = 0; value = round-whole binary32 false 0 (omega arith); is = refl }
+counted-whole (suc b) (suc c) h = record { sign = true; size = suc c; value = round-whole binary32 true (suc c) (omega arith); is = refl }
 
 -- ---- one frame of such bits
 
@@ -136,15 +154,30 @@ module _ (sh : Sheet) (ok : Accepted sh) (i : ℕ) (l : i < sh .channels) where
         ∙ ap₂ counted (ap (λ (x : ℕ). getD (bitsOf sh contents i) x 0) k ∙ bit)
         (ap (λ (s : ℕ). copiesOf (changeOf sh i) (sizeOf sh i) s row) (start-turn number turn e))
 
+    copies-few : copiesIn sh i j ≤ mostBits
+    unfolding copiesIn
+    copies-few =
+        let copies = copiesOf (changeOf sh i) (sizeOf sh i) (startAt sh turn i) row in
+        split copies 0 (λ le. omega arith)
+        (λ lt.
+        omega (
+          arith,
+          kept (changeOf sh i) (sizeOf sh i) (shareOf sh i) (startAt sh turn i) row (copies - 1) (rates sh ok turn i) row-inside (omega arith)
+              .within,
+          shares-most sh ok i l,
+        ))
+
+    -- "exactly"
+    pub finished-exact : (coded : List ℕ) (buffer : List Float) (d : Float) → Received sh i coded buffer
+        → Whole (getD (finishedOf sh i buffer) j d) (signedCount (getD coded j 0) (copiesIn sh i j))
+    finished-exact coded buffer d r =
+        rw (finished-counts coded buffer d r) (counted-whole (getD coded j 0) (copiesIn sh i j) copies-few)
+
     -- "and as +0.0 where punctured"
     pub finished-punctured : (coded : List ℕ) (buffer : List Float) (d : Float) → Received sh i coded buffer → copiesIn sh i j ≡ 0
         → getD (finishedOf sh i buffer) j d ≡ plusZero
     finished-punctured coded buffer d r z =
-        finished-counts coded buffer d r ∙ ap (counted (getD coded j 0)) z ∙ none-counted (getD coded j 0)
-      where
-        none-counted : (b : ℕ) → counted b 0 ≡ plusZero
-        none-counted zero = unfold counted ofInt round in refl
-        none-counted (suc b) = unfold counted ofInt round in refl
+        finished-counts coded buffer d r ∙ ap (counted (getD coded j 0)) z ∙ counted-none (getD coded j 0)
 
   -- and E values in all
   pub length-finished : (buffer : List Float) → length (finishedOf sh i buffer) ≡ encodedOf sh i
@@ -152,26 +185,34 @@ module _ (sh : Sheet) (ok : Accepted sh) (i : ℕ) (l : i < sh .channels) where
   length-finished buffer =
       finished-length (ttiOf sh i) known nan (sizeOf sh i) (encodedOf sh i) (take (equalisedOf sh i) (drop (channelStart sh i) buffer))
 
-  -- ---- taking back makes such a buffer, whatever stood in it: each frame number mod F has a last frame, in any order, with others between
-  pub received-last : (number : ℕ → ℕ) (contents : ℕ → List ℕ) (coded : List ℕ) (old : List Float) (count : ℕ) (last : ℕ → ℕ)
-      → length old ≡ equalisedAll sh → ((n : ℕ) → n < framesOf sh i → LastOf sh i number count n (last n))
-      → ((t : ℕ) → t < count → length (contents t) ≡ encodedAll sh) → ((t : ℕ) → t < count → contentsOf sh (contents t) i ≡ coded)
-      → Received sh i coded (takenAll sh number (λ t. softFrame sh (number t) (contents t)) count old)
-  received-last number contents coded old count last full w all same =
+  -- ---- taking back makes such a buffer, whatever stood in it: frames in any order, each number mod F having a last frame that sent the bits
+  pub received-last : (number : ℕ → ℕ) (frame : ℕ → List Float) (contents : ℕ → List ℕ) (coded : List ℕ) (old : List Float) (count : ℕ)
+      (last : ℕ → ℕ) → length old ≡ equalisedAll sh → ((n : ℕ) → n < framesOf sh i → LastOf sh i number count n (last n))
+      → ((n : ℕ) → n < framesOf sh i → frame (last n) ≡ softFrame sh (number (last n)) (contents n))
+      → ((n : ℕ) → n < framesOf sh i → length (contents n) ≡ encodedAll sh) → ((n : ℕ) → n < framesOf sh i → contentsOf sh (contents n) i ≡ coded)
+      → Received sh i coded (takenAll sh number frame count old)
+  received-last number frame contents coded old count last full w sent all same =
       record {
         number = λ n. number (last n);
-        contents = λ n. contents (last n);
+        contents = contents;
         turn = λ n h. w n h .turn;
-        whole = λ n h. all (last n) (w n h .among);
-        carries = λ n h. same (last n) (w n h .among);
-        segment = λ n h. last-taken sh number (λ t. softFrame sh (number t) (contents t)) old full i l count n (last n) (w n h);
+        whole = all;
+        carries = same;
+        segment =
+            λ n h. last-taken sh number frame old full i l count n (last n) (w n h) ∙ ap (segmentHome sh (number (last n)) i) (sent n h);
       }
 
   -- the F frames of a TTI, one after the other
-  pub received-tti : (number : ℕ → ℕ) (contents : ℕ → List ℕ) (coded : List ℕ) (old : List Float) → length old ≡ equalisedAll sh
-      → ((n : ℕ) → n < framesOf sh i → number n % framesOf sh i ≡ n) → ((n : ℕ) → n < framesOf sh i → length (contents n) ≡ encodedAll sh)
-      → ((n : ℕ) → n < framesOf sh i → contentsOf sh (contents n) i ≡ coded)
-      → Received sh i coded (takenAll sh number (λ n. softFrame sh (number n) (contents n)) (framesOf sh i) old)
-  received-tti number contents coded old full turn all same =
-      received-last number contents coded old (framesOf sh i) (λ n. n) full
-      (λ n h. record { among = h; turn = turn n h; none = λ t a b e. omega (arith, turn t b) }) all same
+  module _ (number : ℕ → ℕ) (contents : ℕ → List ℕ) (coded : List ℕ) (old : List Float) (full : length old ≡ equalisedAll sh)
+      (turn : (n : ℕ) → n < framesOf sh i → number n % framesOf sh i ≡ n)
+      (all : (n : ℕ) → n < framesOf sh i → length (contents n) ≡ encodedAll sh)
+      (same : (n : ℕ) → n < framesOf sh i → contentsOf sh (contents n) i ≡ coded) where
+    pub received-tti : Received sh i coded (takenAll sh number (λ n. softFrame sh (number n) (contents n)) (framesOf sh i) old)
+    received-tti =
+        received-last number (λ n. softFrame sh (number n) (contents n)) contents coded old (framesOf sh i) (λ n. n) full
+        (λ n h. record { among = h; turn = turn n h; none = λ t a b e. omega (arith, turn t b) }) (λ n h. refl) all same
+
+    pub whole-tti : (j : ℕ) (d : Float) → j < encodedOf sh i
+        → getD (finishedOf sh i (takenAll sh number (λ n. softFrame sh (number n) (contents n)) (framesOf sh i) old)) j d
+        ≡ counted (getD coded j 0) (copiesIn sh i j)
+    whole-tti j d h = finished-counts j h coded (takenAll sh number (λ n. softFrame sh (number n) (contents n)) (framesOf sh i) old) d received-tti

@@ -2,6 +2,7 @@
 use mathlib.Core.Path.{_≡_}
 use mathlib.Core.List.{List, map}
 use Prim.Native.Nat.{ℕ, zero, suc, _+_, _*_, _/_, _%_, _<_}
+use lib.IntN.{ℤ, pos, negℤ}
 use lib.Ieee.{Float}
 use lib.ListN.{length, take, drop}
 use Rattle.sheet.specs.Fields.{ttiOf}
@@ -54,3 +55,8 @@ unfoldable pub copiesIn : Sheet → ℕ → ℕ → ℕ
 copiesIn sh i j =
     let n = columnAt (ttiOf sh i) (j % framesOf sh i) in
     copiesOf (changeOf sh i) (sizeOf sh i) (startAt sh n i) (j / framesOf sh i)
+
+-- "plus or minus the number of copies", plus for 0 and minus for 1, as a whole number
+abbrev pub signedCount : ℕ → ℕ → ℤ
+signedCount zero c = pos c
+signedCount (suc b) c = negℤ (pos c)
