@@ -14,7 +14,7 @@ use Rattle.laws.proofs.PartLaws.{map-at}
 use Rattle.matching.specs.Signed.{signedBy}
 use Rattle.pattern.specs.Pattern.{again, grown, after, sharedFrom, shared, matched, copiesOf, Rates}
 use Rattle.pattern.specs.Closed.{sentBefore}
-use Rattle.pattern.proofs.MatchedLaws.{sent-all, sent-more, length-shared, shared-at, shared-matched}
+use Rattle.pattern.proofs.MatchedLaws.{sent-all, sent-more, matched-map, length-shared, shared-at, shared-matched}
 use Rattle.pattern.proofs.SourceLaws.{sent-up}
 use Rattle.pattern.proofs.SegmentLaws.{shared-by}
 use Rattle.joining.specs.declared.Heard.{Heard}
@@ -57,6 +57,12 @@ pub home-matched : {A : Type 0} (f : A → ℕ → Float) (d : ℤ) (e j : ℕ) 
 home-matched f d e j xs a z h =
     home-shared d (length xs) e j (matched f d (length xs) e xs) z h
     ∙ ap (λ (l : List Float). valueOf (joinOf l)) (shared-matched f d e j xs a h)
+
+-- the same, where what was sent came as h of it
+pub home-sent : {A B : Type 0} (f : A → ℕ → B) (h : B → Float) (d : ℤ) (e j : ℕ) (xs : List A) (a : A) (z : Float) → j < length xs
+    → getD (homeOf d (length xs) e (map h (matched f d (length xs) e xs))) j z
+    ≡ valueOf (joinOf (table (λ c. h (f (getD xs j a) c)) 0 (copiesOf d (length xs) e j)))
+home-sent f h d e j xs a z k = rw (← matched-map f h d (length xs) e xs) (home-matched (λ x c. h (f x c)) d e j xs a z k)
 
 -- bit j by itself, its values found without a walk: those from a up to b
 pub record Alone (d : ℤ) (N e j : ℕ) (vs : List Float) (a b : ℕ) : Type 0 where

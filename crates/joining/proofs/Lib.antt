@@ -3,11 +3,11 @@ pub mod HomeLaws
 pub mod PlaceLaws
 pub mod FillLaws
 pub mod LinkLaws
-pub mod Example
+pub mod HeardLaws
 pub mod WholeLaws
 pub mod CopyLaws
 pub mod BoundLaws
-pub mod ZeroLaws
 pub mod ValueLaws
-pub mod HeardLaws
 pub mod ExtremeLaws
+pub mod ZeroLaws
+pub mod Example
