@@ -6,3 +6,4 @@ pub mod Among
 pub mod Exact
 pub mod Kept
 pub mod WholeTti
+pub mod TakeLaws

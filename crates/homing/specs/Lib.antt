@@ -1,3 +1,4 @@
 pub mod Gather
 pub mod Home
 pub mod Received
+pub mod Taking

@@ -1,2 +1,3 @@
 // Coming home: a received frame gathered, taken back and finished.
 pub mod gathering;
+pub mod taking;

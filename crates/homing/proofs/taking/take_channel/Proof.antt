@@ -1,0 +1,27 @@
+use mathlib.Core.Path.{sym, _∙_}
+use Rattle.homing.proofs.TakeLaws.{home-in, fits-by}
+use borrow.Author.Needs.{needs}
+use Rattle.homing.proofs.taking.take_channel.Statement.{statement}
+use Rattle.homing.proofs.taking.take_channel.Tie as tie
+
+walk-of-requires : tie.Need-walk-of-requires
+walk-of-requires c κs = search needs
+
+join-segment-requires : tie.Need-join-segment-requires
+join-segment-requires c κs =
+    let w = c .before in
+    let s = w .before .before .before in
+    fits-by (s .args .opened .fields) (s .args .number .0) (s .args .i) (w .walk-of .result) (w .walk-of .ensures) (s .pre .3) (s .pre .2)
+
+same-length : tie.Need-same-length
+same-length c = search needs
+
+returns : tie.Need-returns
+returns c =
+    let w = c .before .before .before .before in
+    let s = w .before .before .before in
+    home-in (s .args .opened .fields) (s .args .number .0) (s .args .i) (w .walk-of .result) (w .walk-of .ensures) (s .args .values .now)
+    (s .pre .3 ∙ sym (w .walk-of .ensures .size)) (c .before .before .join-segment .ensures)
+
+pub take-channel-spec : {M : Type 1} → statement M
+take-channel-spec = tie.close (tie.spec walk-of-requires join-segment-requires same-length returns)

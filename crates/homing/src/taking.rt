@@ -1,0 +1,110 @@
+// Steps 7 and 6 undone, channel after channel, out of multiplexed values.
+ghost use mathlib.Core.Path.{_≡_};
+ghost use Prim.Native.Nat.{_+_, _*_, _%_, _≤_, _<_};
+ghost use lib.ListN.{length};
+ghost use Rattle.sheet.specs.Counts.{mostEncoded};
+ghost use Rattle.sheet.specs.Sizes.{sizeOf, capacityAll, equalisedAll};
+ghost use Rattle.matching.specs.Shares.{shareOf};
+ghost use Rattle.opening.specs.Opened.{Opens};
+ghost use Rattle.homing.specs.Taking.{Walks, homeIn, hearIn, surveyIn, takenFrom};
+use counters::FrameNumber;
+use frame::multiplexing::start_of;
+use joining::Heard;
+use joining::filling::join_segment;
+use joining::hearing;
+use joining::linking::Link;
+use joining::linking::link_segment;
+use opening::Opened;
+use opening::change;
+use sheet::count;
+use sheet::sizes::frames;
+
+// Step 6 of one channel in a frame: N, the start e, and d by its sign and its magnitude m.
+pub struct Walk {
+    pub n: usize,
+    pub e: usize,
+    pub less: bool,
+    pub m: usize,
+}
+
+fn walk_of(opened: Opened, i: usize, number: FrameNumber) -> Walk
+    requires { ⌜ Opens opened × (i < opened .fields .channels) ⌝ }
+    ensures { λ r. ⌜ Walks (opened .fields) (number .0) i r ⌝ }
+{
+    let fields = opened.fields;
+    let sizes = opened.sizes;
+    let n = sizes[i];
+    let d = change(opened, i);
+    let e = start_of(n, d, fields.tti[i], number);
+    Walk {
+        n: n as usize,
+        e: e as usize,
+        less: d.less,
+        m: d.size as usize,
+    }
+}
+
+// The joined values of channel i's segment, out of its values as they were sent.
+fn take_channel(values: &[f32], opened: Opened, i: usize, number: FrameNumber, segment: &mut [f32])
+    requires { ⌜ Opens opened × (i < opened .fields .channels) × (length (now values) ≡ shareOf (opened .fields) i) × (length (now segment) ≡ sizeOf (opened .fields) i) ⌝ }
+    ensures { λ _. ⌜ now (segment .exit) ≡ homeIn (opened .fields) (number .0) i (now (values .entry)) ⌝ }
+{
+    let w = walk_of(opened, i, number);
+    join_segment(values, segment, w.e, w.less, w.m);
+}
+
+// What was heard of bit m, from 0, of channel i's segment.
+pub fn hear_channel(
+    values: &[f32],
+    opened: Opened,
+    i: usize,
+    number: FrameNumber,
+    m: usize,
+) -> Heard
+    requires { ⌜ Opens opened × (i < opened .fields .channels) × (length (now values) ≡ shareOf (opened .fields) i) × (m < sizeOf (opened .fields) i) ⌝ }
+    ensures { λ r. ⌜ r ≡ hearIn (opened .fields) (number .0) i m (now (values .entry)) ⌝ }
+{
+    let w = walk_of(opened, i, number);
+    hearing::hear_bit(values, w.n, w.e, w.less, w.m, m)
+}
+
+// The link record of channel i.
+pub fn survey_channel(values: &[f32], opened: Opened, i: usize, number: FrameNumber) -> Link
+    requires { ⌜ Opens opened × (i < opened .fields .channels) × (length (now values) ≡ shareOf (opened .fields) i) ⌝ }
+    ensures { λ r. ⌜ r ≡ surveyIn (opened .fields) (number .0) i (now (values .entry)) ⌝ }
+{
+    let w = walk_of(opened, i, number);
+    link_segment(values, w.n, w.e, w.less, w.m)
+}
+
+// Where the frame's segment of `size` begins among the f of a channel.
+fn segment_from(f: u64, size: usize, number: FrameNumber) -> usize
+    requires { ⌜ (0 < f) × (f ≤ 8) × (size ≤ mostEncoded) ⌝ }
+    ensures { λ r. ⌜ (r ≡ number .0 % f * size) × (r + size ≤ f * size) × (f * size ≤ 8 * mostEncoded) ⌝ }
+{
+    number.within(f) * size
+}
+
+// Every channel's segment of this frame, into a buffer of all T_i.
+pub fn take_segments(values: &[f32], opened: Opened, number: FrameNumber, joined: &mut [f32])
+    requires { ⌜ Opens opened × (length (now values) ≡ capacityAll (opened .fields)) × (length (now joined) ≡ equalisedAll (opened .fields)) ⌝ }
+    ensures { λ _. ⌜ now (joined .exit) ≡ takenFrom (opened .fields) (number .0) (now (values .entry)) (opened .fields .channels) (now (joined .entry)) ⌝ }
+{
+    let fields = opened.fields;
+    let sizes = opened.sizes;
+    let cuts = opened.cuts;
+    let n = count(fields.channels);
+    let mut base: usize = 0;
+    let mut i: usize = 0;
+    while i < n {
+        let size = sizes[i] as usize;
+        let f = frames(fields.tti[i]);
+        let at = base + segment_from(f, size, number);
+        let to = at + size;
+        let a = cuts[i] as usize;
+        let z = cuts[i + 1] as usize;
+        take_channel(&values[a..z], opened, i, number, &mut joined[at..to]);
+        base += f as usize * size;
+        i += 1;
+    }
+}
