@@ -34,10 +34,8 @@ help:
 	@head -n 1 Makefile
 
 run:
-	rt check lister
-	@echo 'examples/example.sheet holds the bytes'$$(od -A n -t x1 examples/example.sheet)': the sheet of one channel of'
-	@echo '6 bits a frame, in one slot with one physical channel of 4 bits. The sheet lister prints of it:'
-	@$(RUN) $(LISTER) < examples/example.sheet
+	rt check tour
+	@$(RUN) target/bin/tour
 
 # The log is kept outside target/ while rt ci runs, which removes that. The line with the verdict comes last, if all passed.
 test: setup
