@@ -26,6 +26,8 @@ use Rattle.joining.specs.declared.Heard.{Heard}
 use Rattle.joining.specs.declared.linking.Link.{Link}
 use Rattle.opening.specs.Opened.{Opens}
 use Rattle.opening.specs.declared.Opened.{Opened}
+use Rattle.opening.proofs.OpenLaws.{low-is}
+use Rattle.frame.proofs.SendLaws.{cut-share}
 use Rattle.homing.specs.Home.{partOf, channelStart, segmentStart}
 use Rattle.homing.specs.Taking.{Walks, homeIn, hearIn, surveyIn, takenFrom}
 use Rattle.homing.specs.declared.taking.Walk.{Walk}
@@ -98,3 +100,9 @@ module _ (o : Opened) (h : Opens o) (number : ℕ) (ms old l : List Float) (i ba
         ∙ ap₂ (λ (a : List Float) (k : ℕ). sets a k y) was (ap₂ _+_ eb ef)
         ∙ ap (sets (takenFrom sh number ms i old) (channelStart sh i + number % framesOf sh i * sizeOf sh i)) q
         ∙ ap (λ (k : ℕ). takenFrom sh number ms k old) (sym (add-one i))
+
+-- the channel's part by its cuts
+pub part-at : {A : Type 0} (o : Opened) → Opens o → (i : ℕ) → i < o .fields .channels → (xs : List A)
+    → take (getD (o .cuts) (i + 1) 0 - getD (o .cuts) i 0) (drop (getD (o .cuts) i 0) xs) ≡ partOf (o .fields) i xs
+unfolding partOf
+part-at o h i l xs = ap₂ (λ (n k : ℕ). take n (drop k xs)) (cut-share o h i l) (low-is o h i l)

@@ -2,3 +2,4 @@ pub mod Gather
 pub mod Home
 pub mod Received
 pub mod Taking
+pub mod Receiving

@@ -1,3 +1,4 @@
 // Coming home: a received frame gathered, taken back and finished.
 pub mod gathering;
+pub mod receiving;
 pub mod taking;

@@ -8,12 +8,12 @@ use Rattle.laws.proofs.SumLaws.{sum-more, sum-within}
 use Rattle.sheet.specs.Sizes.{framesOf, sizeOf, equalisedOf}
 use Rattle.opening.specs.Opened.{Opens}
 use Rattle.opening.specs.declared.Opened.{Opened}
-use Rattle.opening.proofs.OpenLaws.{size-is, sizes-most, low-is, cut-rises}
+use Rattle.opening.proofs.OpenLaws.{size-is, sizes-most, cut-rises}
 use Rattle.frame.proofs.SpreadLaws.{part-length}
 use Rattle.frame.proofs.SendLaws.{cut-share, cut-within}
 use Rattle.homing.specs.Home.{partOf, channelStart}
 use Rattle.homing.specs.Taking.{homeIn, takenFrom}
-use Rattle.homing.proofs.TakeLaws.{taken-next}
+use Rattle.homing.proofs.TakeLaws.{taken-next, part-at}
 use borrow.Author.Needs.{needs}
 use borrow.Rule.Slice.PartMut.{same-len-mid}
 use Rattle.homing.proofs.taking.take_segments.Statement.{statement}
@@ -169,7 +169,7 @@ loop-less : tie.Need-loop-less Inv-loop μ-loop
 loop-less c = omega arith
 
 loop-again : tie.Need-loop-again Inv-loop μ-loop
-unfolding partOf channelStart
+unfolding channelStart
 loop-again c =
     let k = c .before .before .before .before .before in
     let l = k .before .before .before .before .loop in
@@ -180,13 +180,12 @@ loop-again c =
     let vs = start k .args .values .now in
     let n = start k .args .number .0 in
     let m = y .kept .1 .1 .1 .1 .0 ∙ part-length (l .joined) a b (omega arith) (fits k) in
-    let from = k .segment-from .ensures .0 ∙ ap₂ (λ (f s : ℕ). n % f * s) (k .before .frames .ensures .0) (size k) in
-    let part = ap₂ (λ (x z : ℕ). take x (drop z vs)) (cut-share (o k) (opens k) (i k) (inside k)) (low-is (o k) (opens k) (i k) (inside k)) in (
+    let from = k .segment-from .ensures .0 ∙ ap₂ (λ (f s : ℕ). n % f * s) (k .before .frames .ensures .0) (size k) in (
       omega arith,
       sum-more (equalisedOf sh) (i k) (l .inv .1) (whole k),
       same-len-mid a (b - a) (l .joined) (y .last .1 .1 .1 .1 .0) (y .kept .1 .1 .1 .1 .0) ∙ l .inv .2,
       taken-next (o k) (opens k) n vs (start k .args .joined .now) (l .joined) (i k) (l .base) (k .segment-from .result) (inside k) (l .inv .3) (l .inv .1) from (size k) (fits k) m
-          (y .ensures ∙ ap (homeIn sh n (i k)) part),
+          (y .ensures ∙ ap (homeIn sh n (i k)) (part-at (o k) (opens k) (i k) (inside k) vs)),
     )
 
 same-length : tie.Need-same-length Inv-loop μ-loop

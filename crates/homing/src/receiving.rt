@@ -1,0 +1,212 @@
+// A received frame: gathered, and then what was asked of it.
+ghost use mathlib.Core.Path.{_≡_};
+ghost use Prim.Native.Nat.{_≤_, _<_};
+ghost use lib.Ieee.{nan};
+ghost use lib.ListN.{length};
+ghost use Rattle.sheet.specs.Sizes.{sizeOf, capacityAll};
+ghost use Rattle.opening.specs.Opened.{Opens};
+ghost use Rattle.homing.specs.Gather.{gathered};
+ghost use Rattle.homing.specs.Home.{partOf};
+ghost use Rattle.homing.specs.Taking.{hearIn, surveyIn};
+ghost use Rattle.homing.specs.Receiving.{Askable, noLink, receptionOf, receivedInto, smallFrame, middleFrame};
+use crate::gathering::gather_values;
+use crate::taking::hear_channel;
+use crate::taking::survey_channel;
+use crate::taking::take_segments;
+use counters::FrameNumber;
+use joining::Heard;
+use joining::linking::Link;
+use opening::Opened;
+use sheet::counts::MOST_BITS;
+
+// The frames of specs/Receiving.antt.
+pub const SMALL: usize = 512;
+
+pub const MIDDLE: usize = 4096;
+
+// Every channel's segment; what was heard of a bit of a channel's segment; a channel's link record. Channels and bits are counted from 0.
+pub enum Asked {
+    All,
+    Bit(usize, usize),
+    Channel(usize),
+}
+
+// What was heard of the bit, and the link record; nothing where they were not asked.
+pub struct Reception {
+    pub heard: Heard,
+    pub link: Link,
+}
+
+fn no_link() -> Link
+    ensures { λ r. ⌜ r ≡ noLink ⌝ }
+{
+    Link {
+        least: 0.0,
+        greatest: 0.0,
+        punctured: 0,
+    }
+}
+
+fn hear_part(values: &[f32], opened: Opened, number: FrameNumber, i: usize, m: usize) -> Heard
+    requires { ⌜ Opens opened × (length (now values) ≡ capacityAll (opened .fields)) × (i < opened .fields .channels) × (m < sizeOf (opened .fields) i) ⌝ }
+    ensures { λ r. ⌜ r ≡ hearIn (opened .fields) (number .0) i m (partOf (opened .fields) i (now (values .entry))) ⌝ }
+{
+    let cuts = opened.cuts;
+    let a = cuts[i] as usize;
+    let z = cuts[i + 1] as usize;
+    hear_channel(&values[a..z], opened, i, number, m)
+}
+
+fn survey_part(values: &[f32], opened: Opened, number: FrameNumber, i: usize) -> Link
+    requires { ⌜ Opens opened × (length (now values) ≡ capacityAll (opened .fields)) × (i < opened .fields .channels) ⌝ }
+    ensures { λ r. ⌜ r ≡ surveyIn (opened .fields) (number .0) i (partOf (opened .fields) i (now (values .entry))) ⌝ }
+{
+    let cuts = opened.cuts;
+    let a = cuts[i] as usize;
+    let z = cuts[i + 1] as usize;
+    survey_channel(&values[a..z], opened, i, number)
+}
+
+// Of gathered values.
+fn answer(
+    values: &[f32],
+    opened: Opened,
+    number: FrameNumber,
+    asked: Asked,
+    joined: &mut [f32],
+) -> Reception
+    requires { ⌜ Opens opened × (length (now values) ≡ capacityAll (opened .fields)) × Askable (opened .fields) asked (length (now joined)) ⌝ }
+    ensures { λ r. ⌜ (r ≡ receptionOf (opened .fields) (number .0) (now (values .entry)) asked) × (now (joined .exit) ≡ receivedInto (opened .fields) (number .0) (now (values .entry)) asked (now (joined .entry))) ⌝ }
+{
+    match asked {
+        Asked::All => {
+            take_segments(values, opened, number, joined);
+            let link = no_link();
+            Reception {
+                heard: Heard::Nothing,
+                link,
+            }
+        }
+        Asked::Bit(i, m) => {
+            let heard = hear_part(values, opened, number, i, m);
+            let link = no_link();
+            Reception { heard, link }
+        }
+        Asked::Channel(i) => {
+            let link = survey_part(values, opened, number, i);
+            Reception {
+                heard: Heard::Nothing,
+                link,
+            }
+        }
+    }
+}
+
+// The rooms are for values that are interleaved still, and for gathered ones.
+fn receive_within(
+    frame: &[f32],
+    opened: Opened,
+    number: FrameNumber,
+    asked: Asked,
+    room: &mut [f32],
+    values: &mut [f32],
+    joined: &mut [f32],
+) -> Reception
+    requires { ⌜ Opens opened × (length (now frame) ≡ capacityAll (opened .fields)) × (length (now room) ≡ capacityAll (opened .fields)) × (length (now values) ≡ capacityAll (opened .fields)) × Askable (opened .fields) asked (length (now joined)) ⌝ }
+    ensures { λ r. ⌜ (r ≡ receptionOf (opened .fields) (number .0) (gathered nan (opened .fields) (now (frame .entry))) asked) × (now (joined .exit) ≡ receivedInto (opened .fields) (number .0) (gathered nan (opened .fields) (now (frame .entry))) asked (now (joined .entry))) ⌝ }
+{
+    gather_values(frame, opened.fields, room, values);
+    answer(values, opened, number, asked, joined)
+}
+
+fn receive_small(
+    frame: &[f32],
+    opened: Opened,
+    number: FrameNumber,
+    asked: Asked,
+    joined: &mut [f32],
+) -> Reception
+    requires { ⌜ Opens opened × (length (now frame) ≡ capacityAll (opened .fields)) × Askable (opened .fields) asked (length (now joined)) × (length (now frame) ≤ smallFrame) ⌝ }
+    ensures { λ r. ⌜ (r ≡ receptionOf (opened .fields) (number .0) (gathered nan (opened .fields) (now (frame .entry))) asked) × (now (joined .exit) ≡ receivedInto (opened .fields) (number .0) (gathered nan (opened .fields) (now (frame .entry))) asked (now (joined .entry))) ⌝ }
+{
+    let mut room = [0.0f32; SMALL];
+    let mut values = [0.0f32; SMALL];
+    let n = frame.len();
+    receive_within(
+        frame,
+        opened,
+        number,
+        asked,
+        &mut room[..n],
+        &mut values[..n],
+        joined,
+    )
+}
+
+fn receive_middle(
+    frame: &[f32],
+    opened: Opened,
+    number: FrameNumber,
+    asked: Asked,
+    joined: &mut [f32],
+) -> Reception
+    requires { ⌜ Opens opened × (length (now frame) ≡ capacityAll (opened .fields)) × Askable (opened .fields) asked (length (now joined)) × (length (now frame) ≤ middleFrame) ⌝ }
+    ensures { λ r. ⌜ (r ≡ receptionOf (opened .fields) (number .0) (gathered nan (opened .fields) (now (frame .entry))) asked) × (now (joined .exit) ≡ receivedInto (opened .fields) (number .0) (gathered nan (opened .fields) (now (frame .entry))) asked (now (joined .entry))) ⌝ }
+{
+    let mut room = [0.0f32; MIDDLE];
+    let mut values = [0.0f32; MIDDLE];
+    let n = frame.len();
+    receive_within(
+        frame,
+        opened,
+        number,
+        asked,
+        &mut room[..n],
+        &mut values[..n],
+        joined,
+    )
+}
+
+fn receive_large(
+    frame: &[f32],
+    opened: Opened,
+    number: FrameNumber,
+    asked: Asked,
+    joined: &mut [f32],
+) -> Reception
+    requires { ⌜ Opens opened × (length (now frame) ≡ capacityAll (opened .fields)) × Askable (opened .fields) asked (length (now joined)) ⌝ }
+    ensures { λ r. ⌜ (r ≡ receptionOf (opened .fields) (number .0) (gathered nan (opened .fields) (now (frame .entry))) asked) × (now (joined .exit) ≡ receivedInto (opened .fields) (number .0) (gathered nan (opened .fields) (now (frame .entry))) asked (now (joined .entry))) ⌝ }
+{
+    let mut room = [0.0f32; MOST_BITS as usize];
+    let mut values = [0.0f32; MOST_BITS as usize];
+    let n = frame.len();
+    receive_within(
+        frame,
+        opened,
+        number,
+        asked,
+        &mut room[..n],
+        &mut values[..n],
+        joined,
+    )
+}
+
+// What was asked of a received frame.
+pub fn receive(
+    frame: &[f32],
+    opened: Opened,
+    number: FrameNumber,
+    asked: Asked,
+    joined: &mut [f32],
+) -> Reception
+    requires { ⌜ Opens opened × (length (now frame) ≡ capacityAll (opened .fields)) × Askable (opened .fields) asked (length (now joined)) ⌝ }
+    ensures { λ r. ⌜ (r ≡ receptionOf (opened .fields) (number .0) (gathered nan (opened .fields) (now (frame .entry))) asked) × (now (joined .exit) ≡ receivedInto (opened .fields) (number .0) (gathered nan (opened .fields) (now (frame .entry))) asked (now (joined .entry))) ⌝ }
+{
+    if frame.len() <= SMALL {
+        receive_small(frame, opened, number, asked, joined)
+    } else if frame.len() <= MIDDLE {
+        receive_middle(frame, opened, number, asked, joined)
+    } else {
+        receive_large(frame, opened, number, asked, joined)
+    }
+}
