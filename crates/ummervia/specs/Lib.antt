@@ -6,3 +6,5 @@ pub mod Asking
 pub mod Building
 pub mod Part
 pub mod Naming
+pub mod Receiving
+pub mod Listening

@@ -8,6 +8,8 @@ pub mod name;
 pub mod part;
 pub mod sheets;
 
+use joining::Heard;
+use joining::linking::Link;
 use naming::PlaceName;
 
 // The sizes that a caller lends buffers by, zeros where the number is not 0.
@@ -42,4 +44,18 @@ pub struct PartAnswer {
 pub struct NameAnswer {
     pub number: u32,
     pub name: PlaceName,
+}
+
+// What was heard of a bit, nothing where the number is not 0; with number 12 `at` is the index of the first bad value.
+pub struct HeardAnswer {
+    pub number: u32,
+    pub at: u64,
+    pub heard: Heard,
+}
+
+// A channel's link record, zeros where the number is not 0; `at` as above.
+pub struct LinkAnswer {
+    pub number: u32,
+    pub at: u64,
+    pub link: Link,
 }
