@@ -12,7 +12,7 @@ use Rattle.laws.proofs.TableLaws.{table-at, table-length, table-same}
 use lib.Pow.{pow-mono, mod-pow-add, shr-shr, low}
 use lib.Arith.{digits-div, digits-mod, lt-of-le-ne}
 use lib.ListN.{length, getD, drop, take, length-append, List·getD-eq-default, List·getD-append}
-use Rattle.bits.specs.Bits.{bitAt, val, digit, field, packed, bitOf}
+use Rattle.bits.specs.Bits.{bitAt, val, digit, field, packed, bitOf, Two}
 
 pub bit-lt : (s : List ℕ) (i : ℕ) → bitAt s i < 2
 unfolding bitAt
@@ -100,31 +100,23 @@ byte-bit s k i l =
 pub byte-val : (s : List ℕ) (k : ℕ) → getD s k 0 < 256 → val (bitAt s) (8 * k) 8 ≡ getD s k 0
 byte-val s k h = val-field (bitAt s) (8 * k) 8 (getD s k 0) h (byte-bit s k)
 
--- three bytes from byte k on
-module _ (s : List ℕ) (k : ℕ) {x y z : ℕ} (ex : x ≡ getD s k 0) (ey : y ≡ getD s (k + 1) 0) (ez : z ≡ getD s (k + 2) 0) (hx : x < 256)
-    (hy : y < 256) (hz : z < 256) where
-  three-val : x * 65536 + y * 256 + z ≡ val (bitAt s) (8 * k) 24
-  three-val =
-      let f = bitAt s in
-      let a : val f (8 * k) 8 ≡ x = byte-val s k (omega arith) ∙ sym ex in
-      let b : val f (8 * k + 8) 8 ≡ y =
-      ap (λ (i : ℕ). val f i 8) (omega arith) ∙ byte-val s (k + 1) (omega arith) ∙ sym ey
-      in
-      let c : val f (8 * k + 16) 8 ≡ z =
-      ap (λ (i : ℕ). val f i 8) (omega arith) ∙ byte-val s (k + 2) (omega arith) ∙ sym ez
-      in
-      omega (arith, val-append f (8 * k) 16 8, val-append f (8 * k) 8 8)
+-- two bytes are the bits of both
+two-val : (s : List ℕ) (k x : ℕ) → Two s k x → x ≡ val (bitAt s) (8 * k) 16
+two-val s k x h =
+    let f = bitAt s in
+    let b : val f (8 * k + 8) 8 ≡ getD s (k + 1) 0 = ap (λ (i : ℕ). val f i 8) (omega arith) ∙ byte-val s (k + 1) (h .low) in
+    omega (arith, h .made, byte-val s k (h .high), val-append f (8 * k) 8 8)
 
-  -- hold the field of n bits that begins in byte k
-  pub field-read : (at n : ℕ) → at / 8 ≡ k → n ≤ 14
-      → (x * 65536 + y * 256 + z) / 2 ^ (24 - at % 8 - n) % 2 ^ n ≡ val (bitAt s) at n
-  field-read at n e h =
-      let d = 24 - at % 8 - n in
-      let w : 24 ≡ at % 8 + n + d = omega arith in
-      let g : 8 * k + at % 8 ≡ at = omega arith in
-      ap (λ (v : ℕ). v / 2 ^ d % 2 ^ n) (three-val ∙ ap (val (bitAt s) (8 * k)) w)
-      ∙ val-part (bitAt s) (8 * k) (at % 8) n d (bit-lt s)
-      ∙ ap (λ (i : ℕ). val (bitAt s) i n) g
+-- and hold the field that begins in the first and ends in them
+pub field-read : (s : List ℕ) (at n x : ℕ) → Two s (at / 8) x → at % 8 + n ≤ 16 → x / 2 ^ (16 - at % 8 - n) % 2 ^ n ≡ val (bitAt s) at n
+field-read s at n x h l =
+    let k = at / 8 in
+    let d = 16 - at % 8 - n in
+    let w : 16 ≡ at % 8 + n + d = omega arith in
+    let g : 8 * k + at % 8 ≡ at = omega arith in
+    ap (λ (v : ℕ). v / 2 ^ d % 2 ^ n) (two-val s k x h ∙ ap (val (bitAt s) (8 * k)) w)
+    ∙ val-part (bitAt s) (8 * k) (at % 8) n d (bit-lt s)
+    ∙ ap (λ (i : ℕ). val (bitAt s) i n) g
 
 -- 1 << n
 pub shifted : (n : ℕ) → n ≤ 14 → 1 * 2 ^ n % 18446744073709551616 ≡ 2 ^ n

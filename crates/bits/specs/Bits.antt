@@ -1,6 +1,7 @@
 -- Fields packed bit by bit into bytes, most significant first, with no alignment between them.
+use mathlib.Core.Path.{_≡_}
 use mathlib.Core.List.{List}
-use Prim.Native.Nat.{ℕ, zero, suc, _+_, _-_, _*_, _/_, _%_, _^_}
+use Prim.Native.Nat.{ℕ, zero, suc, _+_, _-_, _*_, _/_, _%_, _^_, _<_}
 use lib.ListN.{getD}
 use Rattle.laws.specs.Tables.{table}
 
@@ -32,3 +33,9 @@ packed f m = table (λ k. val f (8 * k) 8) 0 m
 -- bit i of a list of bits; 0 past the end
 abbrev pub bitOf : List ℕ → ℕ → ℕ
 bitOf bs i = getD bs i 0
+
+-- bytes k and k + 1 of the bytes, each 0 past the end, as one number r
+pub record Two (s : List ℕ) (k r : ℕ) : Type 0 where
+  pub made : r ≡ getD s k 0 * 256 + getD s (k + 1) 0
+  pub high : getD s k 0 < 256
+  pub low : getD s (k + 1) 0 < 256

@@ -1,29 +1,46 @@
 // Fields packed bit by bit into bytes: one is read out of bytes, or put down a bit to a byte and packed.
 ghost use mathlib.Core.Path.{_≡_};
-ghost use Prim.Native.Nat.{ℕ, _+_, _*_, _^_, _≤_, _<_};
+ghost use Prim.Native.Nat.{ℕ, _+_, _*_, _%_, _^_, _≤_, _<_};
 ghost use lib.Seq.{paste};
 ghost use lib.ListN.{length, getD};
-ghost use Rattle.bits.specs.Bits.{bitsAt, val, field, packed, bitOf};
+ghost use Rattle.bits.specs.Bits.{bitsAt, val, field, packed, bitOf, Two};
+
+// A byte as a number to calculate with.
+fn wide(x: u8) -> u64
+    ensures { λ r. ⌜ (r ≡ x) × (r < 256) ⌝ }
+{
+    x as u64
+}
 
 // Byte k, 0 past the end.
 fn byte_at(s: &[u8], k: usize) -> u64
     ensures { λ r. ⌜ (r ≡ getD (now (s .entry)) k 0) × (r < 256) ⌝ }
 {
     if k < s.len() {
-        return s[k] as u64;
+        return wide(s[k]);
     }
     0
 }
 
-// The field of n bits at `at`. Three bytes hold it: a byte is not always begun, and n is at most 14.
+// Bytes k and k + 1 as one number. Within the bytes one test serves both.
+fn two_at(s: &[u8], k: usize) -> u64
+    requires { ⌜ k ≤ 65536 ⌝ }
+    ensures { λ r. ⌜ Two (now (s .entry)) k r ⌝ }
+{
+    if k + 1 < s.len() {
+        return wide(s[k]) * 256 + wide(s[k + 1]);
+    }
+    byte_at(s, k) * 256
+}
+
+// The field of n bits at `at`, which two bytes hold.
 pub fn read_field(s: &[u8], at: usize, n: usize) -> u64
-    requires { ⌜ (n ≤ 14) × (at ≤ 65536) ⌝ }
+    requires { ⌜ (n ≤ 14) × (at % 8 + n ≤ 16) × (at ≤ 65536) ⌝ }
     ensures { λ r. ⌜ (r ≡ bitsAt (now (s .entry)) at n) × (r < 2 ^ n) ⌝ }
 {
-    let k = at / 8;
-    let three = byte_at(s, k) * 65536 + byte_at(s, k + 1) * 256 + byte_at(s, k + 2);
-    let behind = (24 - at % 8 - n) as u64;
-    (three >> behind) % (1u64 << (n as u64))
+    let two = two_at(s, at / 8);
+    let behind = (16 - at % 8 - n) as u64;
+    (two >> behind) % (1u64 << (n as u64))
 }
 
 // Puts the n bits of v, one to a byte, from `at` on.

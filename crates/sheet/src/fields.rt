@@ -1,6 +1,6 @@
 // The fields of a sheet's bytes, whatever they are.
 ghost use mathlib.Core.Path.{_≡_};
-ghost use Prim.Native.Nat.{_*_, _≤_};
+ghost use Prim.Native.Nat.{_*_, _%_, _≤_};
 ghost use Rattle.sheet.specs.Counts.{mostChannels, mostSlots, mostCodes};
 ghost use Rattle.sheet.specs.Layout.{channelAt};
 ghost use Rattle.sheet.specs.Fields.{channelsTo, slotsTo, sheetOf};
@@ -59,7 +59,7 @@ fn read_channels(s: &[u8], n: usize) -> Channels
 
 // P and the capacities of t slots, the first at `start`; 0 past them.
 fn read_slots(s: &[u8], start: usize, t: usize) -> Slots
-    requires { ⌜ (t ≤ mostSlots) × (start ≤ channelAt mostChannels) ⌝ }
+    requires { ⌜ (t ≤ mostSlots) × (start % 4 ≡ 0) × (start ≤ channelAt mostChannels) ⌝ }
     ensures { λ r. ⌜ r ≡ slotsTo (now (s .entry)) start t (mostCodes * t) ⌝ }
 {
     let mut r = Slots {

@@ -1,27 +1,21 @@
-use mathlib.Core.Path.{refl, sym}
+use mathlib.Core.Path.{sym}
 use native.Mathlib.Omega.{arith}
-use borrow.Author.Needs.{needs}
 use lib.ListN.{List·getD-eq-default}
+use borrow.Author.Needs.{needs}
 use Rattle.bits.proofs.byte_at.Statement.{statement}
 use Rattle.bits.proofs.byte_at.Tie as tie
-use Rattle.bits.proofs.byte_at.Reads as reads
-use Rattle.bits.proofs.byte_at.Lts as lts
 
--- src/lib.rt:13:16
-shared-slice-read-result : tie.Need-shared-slice-read-result
-shared-slice-read-result c = search needs
+shared-slice-read-wide : tie.Need-shared-slice-read-wide
+shared-slice-read-wide c = search needs
 
--- src/lib.rt:13:16
-cast-result : tie.Need-cast-result
-cast-result c = omega (arith, c .shared-slice-known .given (c .before .before .args .k))
+wide-requires : tie.Need-wide-requires
+wide-requires c κs = search needs
 
--- src/lib.rt:13:9
 returns : tie.Need-returns
-returns c = (refl, omega (arith, c .shared-slice-known .given (c .before .before .args .k)))
+returns c = search needs
 
--- src/lib.rt:9:1
 returns-2 : tie.Need-returns-2
-returns-2 c = (sym (List·getD-eq-default (c .before .args .s .now) 0 (c .if1 .left)), omega arith)
+returns-2 c = (sym (List·getD-eq-default (c .before .before .args .s .now) 0 (c .if1 .left)), omega arith)
 
 pub byte-at-spec : {M : Type 1} → statement M
-byte-at-spec = tie.close (tie.spec shared-slice-read-result cast-result returns returns-2)
+byte-at-spec = tie.close (tie.spec shared-slice-read-wide wide-requires returns returns-2)

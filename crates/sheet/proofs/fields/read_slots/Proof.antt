@@ -1,6 +1,6 @@
 use native.Mathlib.Omega.{arith}
 use mathlib.Core.Path.{_≡_, refl, ap, _∙_}
-use Prim.Native.Nat.{ℕ, _+_, _*_, _-_, _≤_, _<_}
+use Prim.Native.Nat.{ℕ, _+_, _*_, _-_, _%_, _≤_, _<_}
 use Rattle.laws.specs.Tables.{table}
 use Rattle.bits.specs.Bits.{bitsAt}
 use Rattle.sheet.specs.Counts.{mostCodes}
@@ -12,21 +12,21 @@ use Rattle.sheet.proofs.fields.read_slots.Tie as tie
 
 abbrev Inv-loop2 : tie.InvT-loop2
 Inv-loop2 s start t r₀ at₀ i p j₀ r at j =
-    (j ≤ p) × (p ≡ phchsIn s start i) × (at ≡ slotFrom s start i + slotWidth j) × (at ≤ 212 + 196 * i + 12 * j)
+    (j ≤ p) × (p ≡ phchsIn s start i) × (at ≡ slotFrom s start i + slotWidth j) × (at % 4 ≡ 0) × (at ≤ 212 + 196 * i + 12 * j)
     × (r ≡ slotsTo s start (i + 1) (mostCodes * i + j))
 
 abbrev μ-loop2 : tie.MeasureT-loop2
 μ-loop2 s start t r₀ at₀ i p j₀ r at j = p - j
 
 abbrev Inv-loop : tie.InvT-loop
-Inv-loop s start t r₀ at₀ i₀ r at i = (i ≤ t) × (at ≡ slotFrom s start i) × (at ≤ 208 + 196 * i) × (r ≡ slotsTo s start i (mostCodes * i))
+Inv-loop s start t r₀ at₀ i₀ r at i = (i ≤ t) × (at ≡ slotFrom s start i) × (at % 4 ≡ 0) × (at ≤ 208 + 196 * i) × (r ≡ slotsTo s start i (mostCodes * i))
 
 abbrev μ-loop : tie.MeasureT-loop
 μ-loop s start t r₀ at₀ i₀ r at i = t - i
 
 loop-holds : tie.Need-loop-holds Inv-loop2 μ-loop2 Inv-loop μ-loop
 unfolding table slotFrom
-loop-holds c = (omega arith, refl, omega arith, refl)
+loop-holds c = (omega arith, refl, omega arith, omega arith, refl)
 
 read-field-requires : tie.Need-read-field-requires Inv-loop2 μ-loop2 Inv-loop μ-loop
 read-field-requires c κs = omega arith
@@ -53,7 +53,7 @@ loop2-holds c =
     let p : c .read-field .result + 1 ≡ phchsIn (a .s .now) (a .start) (l .i) =
     ap (λ (x : ℕ). x + 1) (c .read-field .ensures .0 ∙ ap (λ (x : ℕ). bitsAt (a .s .now) x codesWidth) (l .inv .1))
     in
-    (omega arith, p, omega arith, omega arith, slot-begun (a .s .now) (a .start) (l .i) (l .r) (omega arith) (l .inv .3) p)
+    (omega arith, p, omega arith, omega arith, omega arith, slot-begun (a .s .now) (a .start) (l .i) (l .r) (omega arith) (l .inv .4) p)
 
 mul-m : tie.Need-mul-m Inv-loop2 μ-loop2 Inv-loop μ-loop
 mul-m c = omega arith
@@ -92,7 +92,8 @@ loop2-again c =
       l .inv .1,
       omega arith,
       omega arith,
-      slot-more (a .s .now) (a .start) i (l .j) (l .r) (omega arith) b (l .inv .4)
+      omega arith,
+      slot-more (a .s .now) (a .start) i (l .j) (l .r) (omega arith) b (l .inv .5)
           (c .read-field2 .ensures .0 ∙ ap (λ (x : ℕ). bitsAt (a .s .now) x capacityWidth) (l .inv .2)),
     )
 
@@ -110,8 +111,9 @@ loop-again c =
     let e : l .j ≡ phchsIn (a .s .now) (a .start) i = omega arith in (
       omega arith,
       omega (arith, slot-next (a .s .now) (a .start) i),
+      omega arith,
       omega (arith, phchs-most (a .s .now) (a .start) i),
-      l .inv .4 ∙ ap (λ (j : ℕ). slotsTo (a .s .now) (a .start) (i + 1) (mostCodes * i + j)) e ∙ slot-done (a .s .now) (a .start) i,
+      l .inv .5 ∙ ap (λ (j : ℕ). slotsTo (a .s .now) (a .start) (i + 1) (mostCodes * i + j)) e ∙ slot-done (a .s .now) (a .start) i,
     )
 
 returns : tie.Need-returns Inv-loop2 μ-loop2 Inv-loop μ-loop
@@ -119,7 +121,7 @@ returns c =
     let a = c .before .before .before .args in
     let l = c .before .loop in
     let e : l .i ≡ a .t = omega arith in
-    l .inv .3 ∙ ap (λ (i : ℕ). slotsTo (a .s .now) (a .start) i (mostCodes * i)) e
+    l .inv .4 ∙ ap (λ (i : ℕ). slotsTo (a .s .now) (a .start) i (mostCodes * i)) e
 
 pub read-slots-spec : {M : Type 1} → statement M
 read-slots-spec =
