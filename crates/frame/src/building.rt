@@ -8,9 +8,9 @@ ghost use Rattle.frame.specs.Frame.{bitFrame};
 ghost use Rattle.frame.specs.Room.{Room, smallRoom, middleRoom};
 use counters::FrameNumber;
 use opening::Opened;
+use opening::capacity;
 use sheet::counts::CHANNELS;
 use sheet::counts::MOST_BITS;
-use sheet::sizes::capacity;
 
 // The rooms of specs/Room.antt.
 pub const SMALL: usize = 2048;
@@ -45,7 +45,7 @@ fn room_for(opened: Opened) -> u64
     ensures { λ r. ⌜ Room (opened .fields) r ⌝ }
 {
     let sizes = opened.sizes;
-    let mut most = capacity(opened.fields);
+    let mut most = capacity(opened);
     let mut i: usize = 0;
     while i < CHANNELS {
         most = greater(most, sizes[i]);

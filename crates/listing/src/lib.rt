@@ -7,10 +7,10 @@ ghost use lib.Seq.{paste};
 ghost use Rattle.opening.specs.Opened.{Opens};
 ghost use Rattle.listing.specs.Listing.{room, decimalOf, headLine, withLine, linesTo, refusal, listingOf, textOf, Lists};
 use opening::Opened;
+use opening::capacity;
 use opening::open_sheet;
 use opening::share;
 use sheet::count;
-use sheet::sizes::capacity;
 use sheet::sizes::frames;
 use sheet::wide;
 
@@ -58,7 +58,7 @@ fn head_line(out: &mut [u8], opened: Opened) -> usize
     ensures { λ r. ⌜ Lists (now (out .entry)) (now (out .exit)) r (headLine (opened .fields)) × (r ≤ 87) ⌝ }
 {
     let fields = opened.fields;
-    let d = capacity(fields);
+    let d = capacity(opened);
     let a = put_pair(out, 0, b"channels ", wide(fields.channels));
     let b = put_pair(out, a, b" slots ", wide(fields.slots));
     let c = put_pair(out, b, b" capacity ", d);

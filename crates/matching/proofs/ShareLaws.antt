@@ -19,7 +19,7 @@ use Rattle.laws.proofs.SumLaws.{sum-more}
 use Rattle.laws.proofs.TableLaws.{zeros-at, table-set, filled-all, filled-at, upTo-past}
 use Rattle.sheet.specs.Counts.{mostChannels, mostEncoded, mostRatio}
 use Rattle.sheet.specs.Fields.{encodedOf, ratioOf}
-use Rattle.sheet.specs.Sizes.{framesOf, sizeOf, capacityAll}
+use Rattle.sheet.specs.Sizes.{framesIn, segmentIn, framesOf, sizeOf, capacityAll}
 use Rattle.sheet.specs.Numbers.{silent}
 use Rattle.sheet.specs.Range.{Ranged}
 use Rattle.sheet.specs.declared.Sheet.{Sheet}
@@ -103,29 +103,35 @@ weight-some sh r (suc n) l h =
 pub weight-heard : (sh : Sheet) → Ranged sh → silent sh ≡ false → 0 < weightAll sh
 weight-heard sh r h = weight-some sh r (sh .channels) (omega arith) (not-false _ h)
 
--- the cuts as an array, filled from Z_0 up to Z_k
-abbrev pub cutsTo : Sheet → ℕ → List ℕ
-cutsTo sh k = table (λ i. upTo (k + 1) i (cutOf sh i)) 0 (mostChannels + 1)
+-- RM x N of each channel, by the arrays
+abbrev pub weightsIn : List ℕ → List ℕ → List ℕ → ℕ → ℕ
+weightsIn rm e tti i = getD rm i 0 * segmentIn (getD e i 0) (framesIn (getD tti i 0))
 
-module _ (sh : Sheet) (p : 0 < weightAll sh) where
-  first-entry : (i : ℕ) → Dec (i < 1) → 0 ≡ upTo 1 i (cutOf sh i)
+-- the cuts as an array, filled from Z_0 up to Z_k
+abbrev pub cutsTo : ℕ → (ℕ → ℕ) → ℕ → ℕ → List ℕ
+cutsTo d w all k = table (λ i. upTo (k + 1) i (d * sumTo w i / all)) 0 (mostChannels + 1)
+
+module _ (d : ℕ) (w : ℕ → ℕ) (all : ℕ) where
+  first-entry : (i : ℕ) → Dec (i < 1) → 0 ≡ upTo 1 i (d * sumTo w i / all)
+  unfolding sumTo
   first-entry i (yes l) =
       let e : 0 ≡ i = omega arith in
-      subst (λ (x : ℕ). 0 ≡ upTo 1 x (cutOf sh x)) e (sym (cut-first (capacityAll sh) (weightOf sh) (sh .channels) p))
-  first-entry i (no l) = sym (upTo-past 1 i (cutOf sh i) (omega arith))
+      let z : d * 0 / all ≡ 0 = ap (λ (x : ℕ). x / all) (mul-zero d) ∙ zero-div all in
+      subst (λ (x : ℕ). 0 ≡ upTo 1 x (d * sumTo w x / all)) e (sym z)
+  first-entry i (no l) = sym (upTo-past 1 i (d * sumTo w i / all) (omega arith))
 
-  pub cuts-first : replicate (mostChannels + 1) 0 ≡ cutsTo sh 0
+  pub cuts-first : replicate (mostChannels + 1) 0 ≡ cutsTo d w all 0
   cuts-first =
-      filled-all (λ i. upTo 1 i (cutOf sh i)) (replicate (mostChannels + 1) 0) (mostChannels + 1) refl
+      filled-all (λ i. upTo 1 i (d * sumTo w i / all)) (replicate (mostChannels + 1) 0) (mostChannels + 1) refl
       (λ i l. zeros-at (mostChannels + 1) i ∙ first-entry i (decLt i 1))
 
-pub cuts-more : (sh : Sheet) (k : ℕ) {x : ℕ} (z : List ℕ) → k < mostChannels → z ≡ cutsTo sh k → x ≡ cutOf sh (k + 1)
-    → set z (k + 1) x ≡ cutsTo sh (k + 1)
-cuts-more sh k z h e ex = rw (e, ex) (table-set (cutOf sh) (mostChannels + 1) (k + 1) (omega arith))
+  pub cuts-more : (k : ℕ) {x : ℕ} (z : List ℕ) → k < mostChannels → z ≡ cutsTo d w all k → x ≡ sumTo w (k + 1)
+      → set z (k + 1) (d * x / all) ≡ cutsTo d w all (k + 1)
+  cuts-more k z h e ex = rw (e, ex) (table-set (λ i. d * sumTo w i / all) (mostChannels + 1) (k + 1) (omega arith))
 
-pub cuts-all : (sh : Sheet) (k : ℕ) → k ≡ sh .channels → cutsTo sh k ≡ cutsOf sh
+pub cuts-all : (sh : Sheet) (k : ℕ) {d all : ℕ} → d ≡ capacityAll sh → all ≡ weightAll sh → k ≡ sh .channels → cutsTo d (weightOf sh) all k ≡ cutsOf sh
 unfolding cutsOf
-cuts-all sh k e = ap (cutsTo sh) e
+cuts-all sh k ed ea e = rw (ed, ea, e)
 
 pub cuts-at : (sh : Sheet) (i : ℕ) → sh .channels ≤ mostChannels → i ≤ sh .channels → getD (cutsOf sh) i 0 ≡ cutOf sh i
 unfolding cutsOf

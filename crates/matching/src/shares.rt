@@ -3,14 +3,13 @@ ghost use mathlib.Core.Path.{_≡_};
 ghost use Prim.Native.Nat.{ℕ, _*_, _≤_, _<_};
 ghost use lib.IntN.{pos, _-ℤ_};
 ghost use Rattle.sheet.specs.Counts.{mostTti, mostEncoded, mostRatio};
-ghost use Rattle.sheet.specs.Sizes.{framesIn, segmentIn};
+ghost use Rattle.sheet.specs.Sizes.{framesIn, segmentIn, capacityAll};
 ghost use Rattle.sheet.specs.Range.{Ranged};
 ghost use Rattle.matching.specs.Signed.{signedBy};
 ghost use Rattle.matching.specs.Shares.{weightAll, cutsOf};
 use sheet::Sheet;
 use sheet::count;
 use sheet::counts::CHANNELS;
-use sheet::sizes::capacity;
 use sheet::sizes::segment;
 use sheet::wide;
 
@@ -50,28 +49,33 @@ fn weight_all(fields: Sheet) -> u64
     ensures { λ r. ⌜ r ≡ weightAll fields ⌝ }
 {
     let n = count(fields.channels);
+    let rm = fields.rm;
+    let e = fields.e;
+    let tti = fields.tti;
     let mut sum: u64 = 0;
     let mut i: usize = 0;
     while i < n {
-        sum += weight(fields.rm[i], fields.e[i], fields.tti[i]);
+        sum += weight(rm[i], e[i], tti[i]);
         i += 1;
     }
     sum
 }
 
-// Z_0 to Z_I, 0 past them.
-pub fn cuts(fields: Sheet) -> [u64; CHANNELS + 1]
-    requires { ⌜ Ranged fields × (0 < weightAll fields) ⌝ }
+// Z_0 to Z_I, 0 past them, of the fields and their D.
+pub fn cuts(fields: Sheet, d: u64) -> [u64; CHANNELS + 1]
+    requires { ⌜ Ranged fields × (0 < weightAll fields) × (d ≡ capacityAll fields) × (d ≤ 15728400) ⌝ }
     ensures { λ r. ⌜ r ≡ cutsOf fields ⌝ }
 {
     let n = count(fields.channels);
-    let d = capacity(fields);
     let all = weight_all(fields);
+    let rm = fields.rm;
+    let e = fields.e;
+    let tti = fields.tti;
     let mut z = [0u64; CHANNELS + 1];
     let mut part: u64 = 0;
     let mut i: usize = 0;
     while i < n {
-        part += weight(fields.rm[i], fields.e[i], fields.tti[i]);
+        part += weight(rm[i], e[i], tti[i]);
         i += 1;
         z[i] = d * part / all;
     }

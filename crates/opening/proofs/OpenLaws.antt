@@ -14,30 +14,30 @@ use Rattle.counters.proofs.LineLaws.{given-yes, given-no}
 use borrow.Author.Tests.{ltb-false}
 use Rattle.sheet.specs.Counts.{mostChannels, mostBits, mostEncoded}
 use Rattle.sheet.specs.Fields.{sheetOf, encodedOf}
-use Rattle.sheet.specs.Sizes.{framesOf, sizeOf, capacityAll}
-use Rattle.sheet.specs.Numbers.{readNumber, readAnswer}
+use Rattle.sheet.specs.Sizes.{framesIn, segmentIn, framesOf, sizeOf, capacityAll}
+use Rattle.sheet.specs.Numbers.{readNumber}
 use Rattle.sheet.specs.Range.{Accepted}
 use Rattle.sheet.specs.declared.Sheet.{Sheet}
-use Rattle.sheet.specs.declared.SheetAnswer.{SheetAnswer}
 use Rattle.sheet.proofs.SizeLaws.{size-most}
 use Rattle.sheet.proofs.FieldLaws.{ranged-in, caps-whole}
-use Rattle.sheet.proofs.NumberLaws.{loads-zero, readable, number-read, fields-read}
+use Rattle.sheet.proofs.NumberLaws.{loads-zero, readable}
 use Rattle.matching.specs.Shares.{weightOf, weightAll, cutOf, shareOf, channelOf}
 use Rattle.matching.proofs.ShareLaws.{weight-heard, cut-first, cut-last, cut-up, cuts-rise, cuts-at, share-most, channel-passes}
 use Rattle.opening.specs.Opened.{sizesOf, openedOf, closed, openAnswer, Opens}
 use Rattle.opening.specs.declared.Opened.{Opened}
 use Rattle.opening.specs.declared.OpenAnswer.{OpenAnswer}
 
--- N of each channel, filled up to k
-abbrev pub sizesTo : Sheet → ℕ → List ℕ
-sizesTo sh k = table (λ i. upTo k i (sizeOf sh i)) 0 mostChannels
+-- N of each channel, by the arrays, filled up to k
+abbrev pub sizesTo : List ℕ → List ℕ → ℕ → List ℕ
+sizesTo e tti k = table (λ i. upTo k i (segmentIn (getD e i 0) (framesIn (getD tti i 0)))) 0 mostChannels
 
-pub sizes-more : (sh : Sheet) (k : ℕ) {x : ℕ} (l : List ℕ) → k < mostChannels → l ≡ sizesTo sh k → x ≡ sizeOf sh k → set l k x ≡ sizesTo sh (k + 1)
-sizes-more sh k l h e ex = rw (e, ex) (table-set (sizeOf sh) mostChannels k h)
+pub sizes-more : (e tti : List ℕ) (k : ℕ) {x : ℕ} (l : List ℕ) → k < mostChannels → l ≡ sizesTo e tti k → x ≡ segmentIn (getD e k 0) (framesIn (getD tti k 0))
+    → set l k x ≡ sizesTo e tti (k + 1)
+sizes-more e tti k l h p q = rw (p, q) (table-set (λ i. segmentIn (getD e i 0) (framesIn (getD tti i 0))) mostChannels k h)
 
-pub sizes-all : (sh : Sheet) (k : ℕ) → k ≡ sh .channels → sizesTo sh k ≡ sizesOf sh
+pub sizes-all : (sh : Sheet) (k : ℕ) → k ≡ sh .channels → sizesTo (sh .e) (sh .tti) k ≡ sizesOf sh
 unfolding sizesOf
-sizes-all sh k e = ap (sizesTo sh) e
+sizes-all sh k e = ap (sizesTo (sh .e) (sh .tti)) e
 
 pub sizes-at : (sh : Sheet) (i : ℕ) → sh .channels ≤ mostChannels → i < sh .channels → getD (sizesOf sh) i 0 ≡ sizeOf sh i
 unfolding sizesOf
@@ -127,22 +127,20 @@ module _ (o : Opened) (h : Opens o) (x : ℕ) (l : x < capacityAll (o .fields)) 
 made : (n m : ℕ) (a b : Opened) → n ≡ m → a ≡ b → _≡_ {A = OpenAnswer} (record { number = n; opened = a }) (record { number = m; opened = b })
 made n m a b p q = rw (p, q)
 
-module _ (s : List ℕ) (a : SheetAnswer) (e : a ≡ readAnswer s) where
-  pub accepted-read : a .number ≡ 0 → Accepted (a .sheet)
-  accepted-read z = subst Accepted (sym (fields-read s a e z)) (accepted-in s (sym (number-read s a e) ∙ z))
+module _ (s : List ℕ) (n : ℕ) (e : n ≡ readNumber s) where
+  pub accepted-read : (sh : Sheet) → sh ≡ sheetOf s → n ≡ 0 → Accepted sh
+  accepted-read sh f z = subst Accepted (sym f) (accepted-in s (sym e ∙ z))
 
-  pub opened-yes : (o : Opened) → a .number ≡ 0 → o ≡ openedOf (a .sheet)
-      → _≡_ {A = OpenAnswer} (record { number = a .number; opened = o }) (openAnswer s)
-  opened-yes o z p =
-      let n : a .number ≡ readNumber s = number-read s a e in
-      made (a .number) (readNumber s) o (given (readNumber s) (openedOf (sheetOf s)) closed) n
-      (p ∙ ap openedOf (fields-read s a e z) ∙ sym (given-yes (readNumber s) (openedOf (sheetOf s)) closed (sym n ∙ z)))
+  pub opened-yes : (sh : Sheet) (o : Opened) → sh ≡ sheetOf s → n ≡ 0 → o ≡ openedOf sh
+      → _≡_ {A = OpenAnswer} (record { number = n; opened = o }) (openAnswer s)
+  opened-yes sh o f z p =
+      made n (readNumber s) o (given (readNumber s) (openedOf (sheetOf s)) closed) e
+      (p ∙ ap openedOf f ∙ sym (given-yes (readNumber s) (openedOf (sheetOf s)) closed (sym e ∙ z)))
 
-  pub opened-no : (o : Opened) → (a .number ≡ 0 → ⊥) → o ≡ closed → _≡_ {A = OpenAnswer} (record { number = a .number; opened = o }) (openAnswer s)
+  pub opened-no : (o : Opened) → (n ≡ 0 → ⊥) → o ≡ closed → _≡_ {A = OpenAnswer} (record { number = n; opened = o }) (openAnswer s)
   opened-no o z p =
-      let n : a .number ≡ readNumber s = number-read s a e in
-      made (a .number) (readNumber s) o (given (readNumber s) (openedOf (sheetOf s)) closed) n
-      (p ∙ sym (given-no (readNumber s) (openedOf (sheetOf s)) closed (λ q. z (n ∙ q))))
+      made n (readNumber s) o (given (readNumber s) (openedOf (sheetOf s)) closed) e
+      (p ∙ sym (given-no (readNumber s) (openedOf (sheetOf s)) closed (λ q. z (e ∙ q))))
 
 -- what an accepted opening is
 module _ (s : List ℕ) (a : OpenAnswer) (e : a ≡ openAnswer s) where

@@ -13,9 +13,11 @@ use matching::shares::difference;
 use sheet::Sheet;
 use sheet::count;
 use sheet::counts::CHANNELS;
+use sheet::fields::read_fields;
 use sheet::none;
-use sheet::reading::read_sheet;
+use sheet::reading::read_number;
 use sheet::sizes::segment;
+use sheet::sizes::whole_load;
 
 // The fields; N of each channel, 0 past I; Z_0 to Z_I, 0 past them.
 pub struct Opened {
@@ -36,10 +38,12 @@ fn sizes(fields: Sheet) -> [u64; CHANNELS]
     ensures { λ r. ⌜ r ≡ sizesOf fields ⌝ }
 {
     let n = count(fields.channels);
+    let e = fields.e;
+    let tti = fields.tti;
     let mut all = [0u64; CHANNELS];
     let mut i: usize = 0;
     while i < n {
-        all[i] = segment(fields.e[i], fields.tti[i]);
+        all[i] = segment(e[i], tti[i]);
         i += 1;
     }
     all
@@ -57,13 +61,13 @@ fn zeros() -> Opened
     }
 }
 
-// The numbers of accepted fields.
-pub fn open_fields(fields: Sheet) -> Opened
-    requires { ⌜ Accepted fields ⌝ }
+// The numbers of accepted fields and their D.
+fn open_fields(fields: Sheet, d: u64) -> Opened
+    requires { ⌜ Accepted fields × (d ≡ capacityAll fields) ⌝ }
     ensures { λ r. ⌜ r ≡ openedOf fields ⌝ }
 {
     let sizes = sizes(fields);
-    let cuts = cuts(fields);
+    let cuts = cuts(fields, d);
     Opened {
         fields,
         sizes,
@@ -75,15 +79,25 @@ pub fn open_fields(fields: Sheet) -> Opened
 pub fn open_sheet(bytes: &[u8]) -> OpenAnswer
     ensures { λ r. ⌜ r ≡ openAnswer (now (bytes .entry)) ⌝ }
 {
-    let answer = read_sheet(bytes);
-    let number = answer.number;
+    let fields = read_fields(bytes);
+    let load = whole_load(&fields.phchs, &fields.caps, count(fields.slots));
+    let number = read_number(bytes, fields, load);
     if number == 0 {
-        let fields = answer.sheet;
-        let opened = open_fields(fields);
+        let opened = open_fields(fields, load.sum);
         return OpenAnswer { number, opened };
     }
     let opened = zeros();
     OpenAnswer { number, opened }
+}
+
+// D, which the last Z is.
+pub fn capacity(opened: Opened) -> u64
+    requires { ⌜ Opens opened ⌝ }
+    ensures { λ r. ⌜ (r ≡ capacityAll (opened .fields)) × (r ≤ mostBits) ⌝ }
+{
+    let fields = opened.fields;
+    let z = opened.cuts;
+    z[count(fields.channels)]
 }
 
 // V of channel i, counted from 0.

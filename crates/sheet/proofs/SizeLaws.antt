@@ -1,18 +1,22 @@
--- Laws of the sizes: N, and the longest sheet.
+-- Laws of the sizes: N, what capacities come to, and the longest sheet.
 use mathlib.Core.Path.{_≡_, refl, sym, ap, ap₂, _∙_}
-use mathlib.Core.Bool.{Bool, cond}
-use Prim.Native.Nat.{ℕ, _+_, _-_, _*_, _/_, _%_, _^_, _≤_}
+use mathlib.Core.Bool.{Bool, cond, _||_}
+use Prim.Native.Nat.{ℕ, _+_, _-_, _*_, _/_, _%_, _^_, _≤_, _<_}
 use native.Mathlib.Nat.{mod-eq-of-lt, one-mul, div-le-self}
+use native.Mathlib.Numerals.{add-one}
 use native.Mathlib.Omega.{arith}
 use native.Mathlib.Decide.{ℕ-discrete}
 use borrow.Author.Tests.{eq-eqb, ne-eqb}
 use lib.Pow.{pow-mono}
+use Rattle.laws.specs.Sums.{anyTo}
 use Rattle.laws.proofs.SumLaws.{sum-most}
-use Rattle.sheet.specs.Counts.{mostTti, longestSheet}
+use Rattle.sheet.specs.Counts.{mostSlots, mostCodes, mostTti, longestSheet}
 use Rattle.sheet.specs.Layout.{slotWidth}
 use Rattle.sheet.specs.Fields.{phchsOf}
-use Rattle.sheet.specs.Sizes.{framesIn, segmentIn, bitsNeeded, bytesNeeded}
+use Rattle.sheet.specs.Sizes.{framesIn, segmentIn, slotCapacity, bitsNeeded, bytesNeeded}
+use Rattle.sheet.specs.Numbers.{slotLoad, wholeLoad, loadOf}
 use Rattle.sheet.specs.Range.{Ranged}
+use Rattle.sheet.specs.declared.sizes.Load.{Load}
 use Rattle.sheet.specs.declared.Sheet.{Sheet}
 
 -- 1 << tti
@@ -33,6 +37,24 @@ size-most e f = side (ℕ-discrete e 0)
     side : Dec (e ≡ 0) → segmentIn e f ≤ e
     side (yes z) = omega (arith, size-none e f z)
     side (no z) = omega (arith, size-some e f {x = e} {g = f} refl refl z, div-le-self (e - 1) f)
+
+-- one capacity more, or one slot more
+pub any-next : (f : ℕ → Bool) (i : ℕ) {a b : Bool} → a ≡ anyTo f i → b ≡ f i → (a || b) ≡ anyTo f (i + 1)
+unfolding anyTo
+any-next f i p q = ap₂ _||_ p q ∙ sym (ap (anyTo f) (add-one i))
+
+pub load-same : {a b : Bool} {x y : ℕ} → a ≡ b → x ≡ y → _≡_ {A = Load} (record { empty = a; sum = x }) (record { empty = b; sum = y })
+load-same p q = rw (p, q)
+
+-- what a sheet's capacities come to: that it may be asked, and what it is
+pub codes-few : (sh : Sheet) (n : ℕ) → Ranged sh → n ≡ sh .slots → (n ≤ mostSlots) × ((t : ℕ) → t < n → phchsOf sh t ≤ mostCodes)
+codes-few sh n r e = (omega (arith, r .fifteen), λ t l. r .phch16 t (omega arith))
+
+pub load-is : (sh : Sheet) (n : ℕ) (load : Load) → n ≡ sh .slots → load ≡ wholeLoad (sh .phchs) (sh .caps) n → load ≡ loadOf sh
+load-is sh n load e h = h ∙ ap (wholeLoad (sh .phchs) (sh .caps)) e
+
+pub load-sum : (sh : Sheet) (t : ℕ) {n : ℕ} {load : Load} → n ≡ phchsOf sh t → load ≡ slotLoad (sh .caps) (mostCodes * t) n → load .sum ≡ slotCapacity sh t
+load-sum sh t e h = ap (λ (x : Load). x .sum) (h ∙ ap (slotLoad (sh .caps) (mostCodes * t)) e)
 
 -- the longest sheet
 pub need-most : (sh : Sheet) → Ranged sh → bitsNeeded sh ≤ 3148

@@ -1,16 +1,17 @@
 -- The lines 1 to 8 of the table of numbers, and what reading a sheet answers.
 use mathlib.Core.Bool.{Bool, not, _||_}
 use mathlib.Core.List.{List, [], _∷_}
-use Prim.Native.Nat.{ℕ, _-_, _*_}
+use Prim.Native.Nat.{ℕ, _+_, _-_, _*_}
 use lib.Dec.{eqb, ltb}
-use lib.ListN.{length}
-use Rattle.laws.specs.Sums.{anyTo}
+use lib.ListN.{length, getD}
+use Rattle.laws.specs.Sums.{sumTo, anyTo}
 use Rattle.counters.specs.Lines.{Line, line, firstOf, given}
 use Rattle.bits.specs.Bits.{bitsAt}
-use Rattle.sheet.specs.Counts.{mostBits}
+use Rattle.sheet.specs.Counts.{mostCodes, mostBits}
 use Rattle.sheet.specs.Layout.{spareAt, spareWidth}
 use Rattle.sheet.specs.Fields.{sheetOf, blank, encodedOf, phchsOf, capacityOf}
 use Rattle.sheet.specs.Sizes.{equalisedAll, capacityAll, bitsNeeded, bytesNeeded}
+use Rattle.sheet.specs.declared.sizes.Load.{Load}
 use Rattle.sheet.specs.declared.Sheet.{Sheet}
 use Rattle.sheet.specs.declared.SheetAnswer.{SheetAnswer}
 
@@ -33,6 +34,22 @@ emptySlot sh t = anyTo (λ p. eqb (capacityOf sh t p) 0) (phchsOf sh t)
 
 abbrev pub emptyPlace : Sheet → Bool
 emptyPlace sh = anyTo (emptySlot sh) (sh .slots)
+
+-- what n capacities from `from` on come to, and those of n slots
+abbrev pub slotLoad : List ℕ → ℕ → ℕ → Load
+slotLoad caps from n =
+    record { empty = anyTo (λ p. eqb (getD caps (from + p) 0) 0) n; sum = sumTo (λ p. getD caps (from + p) 0) n }
+
+abbrev pub wholeLoad : List ℕ → List ℕ → ℕ → Load
+wholeLoad phchs caps n =
+    record {
+      empty = anyTo (λ t. slotLoad caps (mostCodes * t) (getD phchs t 0) .empty) n;
+      sum = sumTo (λ t. slotLoad caps (mostCodes * t) (getD phchs t 0) .sum) n;
+    }
+
+-- what the capacities of a sheet come to: the lines 5 and 7 look at it
+abbrev pub loadOf : Sheet → Load
+loadOf sh = record { empty = emptyPlace sh; sum = capacityAll sh }
 
 -- 8: every E is 0
 abbrev pub silent : Sheet → Bool

@@ -1,56 +1,21 @@
 // A sheet read from its bytes, with the number that the reading answers.
 ghost use mathlib.Core.Path.{_≡_};
-ghost use Prim.Native.Nat.{_≤_, _<_};
 ghost use Rattle.counters.specs.Lines.{firstOf};
-ghost use Rattle.sheet.specs.Counts.{mostSlots, mostCodes};
-ghost use Rattle.sheet.specs.Fields.{sheetOf, phchsOf};
-ghost use Rattle.sheet.specs.Numbers.{misfit, emptySlot, emptyPlace, silent, loadLines, readNumber, readAnswer};
+ghost use Rattle.sheet.specs.Fields.{sheetOf};
+ghost use Rattle.sheet.specs.Numbers.{misfit, silent, loadOf, loadLines, readNumber, readAnswer};
 ghost use Rattle.sheet.specs.Range.{Ranged};
 use crate::Sheet;
 use crate::SheetAnswer;
 use crate::count;
-use crate::counts::CODES;
 use crate::counts::MOST_BITS;
 use crate::fields::read_fields;
 use crate::layout::SPARE_AT;
 use crate::layout::SPARE_WIDTH;
 use crate::none;
+use crate::sizes::Load;
 use crate::sizes::all_equalised;
 use crate::sizes::bits_needed;
-use crate::sizes::capacity;
-
-// Whether a capacity of slot t is 0.
-fn empty_slot(fields: Sheet, t: usize) -> bool
-    requires { ⌜ (t < mostSlots) × (phchsOf fields t ≤ mostCodes) ⌝ }
-    ensures { λ r. ⌜ r ≡ emptySlot fields t ⌝ }
-{
-    let n = count(fields.phchs[t]);
-    let mut p: usize = 0;
-    while p < n {
-        let m = CODES * t + p;
-        if fields.caps[m] == 0 {
-            return true;
-        }
-        p += 1;
-    }
-    false
-}
-
-// Whether a capacity is 0.
-fn empty_place(fields: Sheet) -> bool
-    requires { ⌜ Ranged fields ⌝ }
-    ensures { λ r. ⌜ r ≡ emptyPlace fields ⌝ }
-{
-    let n = count(fields.slots);
-    let mut t: usize = 0;
-    while t < n {
-        if empty_slot(fields, t) {
-            return true;
-        }
-        t += 1;
-    }
-    false
-}
+use crate::sizes::whole_load;
 
 // Whether every E is 0.
 fn all_silent(fields: Sheet) -> bool
@@ -58,9 +23,10 @@ fn all_silent(fields: Sheet) -> bool
     ensures { λ r. ⌜ r ≡ silent fields ⌝ }
 {
     let n = count(fields.channels);
+    let e = fields.e;
     let mut i: usize = 0;
     while i < n {
-        if fields.e[i] != 0 {
+        if e[i] != 0 {
             return false;
         }
         i += 1;
@@ -68,24 +34,33 @@ fn all_silent(fields: Sheet) -> bool
     true
 }
 
-// The number of the lines from 5 on.
-pub fn load_number(fields: Sheet) -> u32
-    requires { ⌜ Ranged fields ⌝ }
+// The number of the lines from 5 on, `load` being what the capacities come to.
+fn loaded_number(fields: Sheet, load: Load) -> u32
+    requires { ⌜ Ranged fields × (load ≡ loadOf fields) ⌝ }
     ensures { λ r. ⌜ r ≡ firstOf (loadLines fields) ⌝ }
 {
-    if empty_place(fields) {
+    if load.empty {
         return 5;
     }
     if MOST_BITS < all_equalised(fields) {
         return 6;
     }
-    if MOST_BITS < capacity(fields) {
+    if MOST_BITS < load.sum {
         return 7;
     }
     if all_silent(fields) {
         return 8;
     }
     0
+}
+
+// The same of the fields alone.
+pub fn load_number(fields: Sheet) -> u32
+    requires { ⌜ Ranged fields ⌝ }
+    ensures { λ r. ⌜ r ≡ firstOf (loadLines fields) ⌝ }
+{
+    let load = whole_load(&fields.phchs, &fields.caps, count(fields.slots));
+    loaded_number(fields, load)
 }
 
 // Whether the length is not what the fields need, or a spare or padding bit is set.
@@ -107,8 +82,8 @@ fn fails_fit(s: &[u8], fields: Sheet) -> bool
 }
 
 // The number of a sheet's bytes.
-fn read_number(s: &[u8], fields: Sheet) -> u32
-    requires { ⌜ (fields ≡ sheetOf (now s)) × Ranged fields ⌝ }
+pub fn read_number(s: &[u8], fields: Sheet, load: Load) -> u32
+    requires { ⌜ (fields ≡ sheetOf (now s)) × Ranged fields × (load ≡ loadOf fields) ⌝ }
     ensures { λ r. ⌜ r ≡ readNumber (now (s .entry)) ⌝ }
 {
     if s.len() < 2 {
@@ -123,7 +98,7 @@ fn read_number(s: &[u8], fields: Sheet) -> u32
     if fails_fit(s, fields) {
         return 4;
     }
-    load_number(fields)
+    loaded_number(fields, load)
 }
 
 // Reads a sheet: its number, and its fields where that is 0, zeros where it is not.
@@ -131,7 +106,8 @@ pub fn read_sheet(bytes: &[u8]) -> SheetAnswer
     ensures { λ r. ⌜ r ≡ readAnswer (now (bytes .entry)) ⌝ }
 {
     let sheet = read_fields(bytes);
-    let number = read_number(bytes, sheet);
+    let load = whole_load(&sheet.phchs, &sheet.caps, count(sheet.slots));
+    let number = read_number(bytes, sheet, load);
     if number == 0 {
         return SheetAnswer { number, sheet };
     }

@@ -1,18 +1,29 @@
-// The sizes that a sheet's fields give.
+// The sizes that a sheet's fields give. An array is copied, or lent, before it is walked: a struct that is indexed is copied whole.
 ghost use mathlib.Core.Path.{_≡_};
-ghost use Prim.Native.Nat.{_*_, _≤_, _<_};
-ghost use Rattle.sheet.specs.Counts.{mostChannels, mostSlots, mostCodes, mostTti, longestSheet};
+ghost use mathlib.Core.Bool.{_||_};
+ghost use Prim.Native.Nat.{ℕ, _+_, _*_, _≤_, _<_};
+ghost use lib.ListN.{getD};
+ghost use Rattle.sheet.specs.Counts.{mostChannels, mostSlots, mostCodes, mostCapacities, mostTti, longestSheet};
 ghost use Rattle.sheet.specs.Fields.{phchsOf};
-ghost use Rattle.sheet.specs.Sizes.{framesIn, segmentIn, encodedAll, equalisedAll, slotCapacity, capacityAll, bitsNeeded, bytesNeeded};
+ghost use Rattle.sheet.specs.Sizes.{framesIn, segmentIn, encodedAll, equalisedAll, slotCapacity, bitsNeeded, bytesNeeded};
+ghost use Rattle.sheet.specs.Numbers.{slotLoad, wholeLoad};
 ghost use Rattle.sheet.specs.Range.{Ranged};
 use crate::Sheet;
 use crate::count;
+use crate::counts::CAPACITIES;
 use crate::counts::CODES;
+use crate::counts::SLOTS;
 use crate::layout::CAPACITY_WIDTH;
 use crate::layout::CHANNEL_WIDTH;
 use crate::layout::CODES_WIDTH;
 use crate::layout::HEAD_WIDTH;
 use crate::wide;
+
+// What capacities come to: whether one of them is 0, and their sum.
+pub struct Load {
+    pub empty: bool,
+    pub sum: u64,
+}
 
 // F of a TTI.
 pub fn frames(tti: u16) -> u64
@@ -50,10 +61,11 @@ pub fn all_encoded(fields: Sheet) -> u64
     ensures { λ r. ⌜ r ≡ encodedAll fields ⌝ }
 {
     let n = count(fields.channels);
+    let e = fields.e;
     let mut sum: u64 = 0;
     let mut i: usize = 0;
     while i < n {
-        sum += wide(fields.e[i]);
+        sum += wide(e[i]);
         i += 1;
     }
     sum
@@ -65,13 +77,58 @@ pub fn all_equalised(fields: Sheet) -> u64
     ensures { λ r. ⌜ r ≡ equalisedAll fields ⌝ }
 {
     let n = count(fields.channels);
+    let e = fields.e;
+    let tti = fields.tti;
     let mut sum: u64 = 0;
     let mut i: usize = 0;
     while i < n {
-        sum += equalised(fields.e[i], fields.tti[i]);
+        sum += equalised(e[i], tti[i]);
         i += 1;
     }
     sum
+}
+
+fn either(a: bool, b: bool) -> bool
+    ensures { λ r. ⌜ r ≡ (a || b) ⌝ }
+{
+    if a {
+        return true;
+    }
+    b
+}
+
+// What n capacities from `from` on come to.
+pub fn slot_load(caps: &[u16; CAPACITIES], from: usize, n: usize) -> Load
+    requires { ⌜ from + n ≤ mostCapacities ⌝ }
+    ensures { λ r. ⌜ (r ≡ slotLoad (now (caps .entry)) from n) × (r .sum ≤ 65535 * n) ⌝ }
+{
+    let mut empty = false;
+    let mut sum: u64 = 0;
+    let mut p: usize = 0;
+    while p < n {
+        let u = caps[from + p];
+        empty = either(empty, u == 0);
+        sum += wide(u);
+        p += 1;
+    }
+    Load { empty, sum }
+}
+
+// What the capacities of n slots come to.
+pub fn whole_load<'a>(phchs: &'a [u16; SLOTS], caps: &'a [u16; CAPACITIES], n: usize) -> Load
+    requires { ⌜ (n ≤ mostSlots) × ((t : ℕ) → t < n → getD (now phchs) t 0 ≤ mostCodes) ⌝ }
+    ensures { λ r. ⌜ (r ≡ wholeLoad (now (phchs .entry)) (now (caps .entry)) n) × (r .sum ≤ 15728400) ⌝ }
+{
+    let mut empty = false;
+    let mut sum: u64 = 0;
+    let mut t: usize = 0;
+    while t < n {
+        let one = slot_load(caps, CODES * t, count(phchs[t]));
+        empty = either(empty, one.empty);
+        sum += one.sum;
+        t += 1;
+    }
+    Load { empty, sum }
 }
 
 // The capacity of slot t.
@@ -80,29 +137,8 @@ pub fn slot_capacity(fields: Sheet, t: usize) -> u64
     ensures { λ r. ⌜ (r ≡ slotCapacity fields t) × (r ≤ 1048560) ⌝ }
 {
     let n = count(fields.phchs[t]);
-    let mut sum: u64 = 0;
-    let mut p: usize = 0;
-    while p < n {
-        let m = CODES * t + p;
-        sum += wide(fields.caps[m]);
-        p += 1;
-    }
-    sum
-}
-
-// D: the sum of all capacities.
-pub fn capacity(fields: Sheet) -> u64
-    requires { ⌜ Ranged fields ⌝ }
-    ensures { λ r. ⌜ (r ≡ capacityAll fields) × (r ≤ 15728400) ⌝ }
-{
-    let n = count(fields.slots);
-    let mut sum: u64 = 0;
-    let mut t: usize = 0;
-    while t < n {
-        sum += slot_capacity(fields, t);
-        t += 1;
-    }
-    sum
+    let one = slot_load(&fields.caps, CODES * t, n);
+    one.sum
 }
 
 // The bits that the fields need.
@@ -111,10 +147,11 @@ pub fn bits_needed(fields: Sheet) -> usize
     ensures { λ r. ⌜ (r ≡ bitsNeeded fields) × (r ≤ 3148) ⌝ }
 {
     let n = count(fields.slots);
+    let phchs = fields.phchs;
     let mut sum: usize = HEAD_WIDTH + CHANNEL_WIDTH * count(fields.channels);
     let mut t: usize = 0;
     while t < n {
-        sum += CODES_WIDTH + CAPACITY_WIDTH * count(fields.phchs[t]);
+        sum += CODES_WIDTH + CAPACITY_WIDTH * count(phchs[t]);
         t += 1;
     }
     sum

@@ -7,12 +7,12 @@ use crate::ChannelAnswer;
 use crate::SizesAnswer;
 use counters::TrchNumber;
 use opening::Opened;
+use opening::capacity;
 use opening::open_sheet;
 use opening::share;
 use sheet::Sheet;
 use sheet::sizes::all_encoded;
 use sheet::sizes::all_equalised;
-use sheet::sizes::capacity;
 use sheet::sizes::frames;
 use sheet::wide;
 
@@ -22,7 +22,7 @@ fn sizes_of(opened: Opened) -> SizesAnswer
 {
     let fields = opened.fields;
     let contents = all_encoded(fields);
-    let capacity = capacity(fields);
+    let capacity = capacity(opened);
     let joined = all_equalised(fields);
     SizesAnswer {
         number: 0,
@@ -69,12 +69,14 @@ fn channel_of(opened: Opened, i: usize) -> ChannelAnswer
     ensures { λ r. ⌜ r ≡ channelIn (opened .fields) i ⌝ }
 {
     let fields = opened.fields;
+    let tti = fields.tti;
+    let e = fields.e;
     let sizes = opened.sizes;
     let v = share(opened, i);
     ChannelAnswer {
         number: 0,
-        f: frames(fields.tti[i]),
-        e: wide(fields.e[i]),
+        f: frames(tti[i]),
+        e: wide(e[i]),
         n: sizes[i],
         v,
     }

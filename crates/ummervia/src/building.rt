@@ -9,11 +9,11 @@ use counters::FrameNumber;
 use frame::building::build_bits;
 use frame::multiplexing::multiplex_bits;
 use frame::spreading::spread_bits;
+use opening::capacity;
 use opening::open_sheet;
 use sheet::counts::MOST_BITS;
 use sheet::counts::MOST_ENCODED;
 use sheet::sizes::all_encoded;
-use sheet::sizes::capacity;
 
 // The contents are asked and sent: to the whole frame, or multiplexed.
 fn send(bytes: &[u8], frame: FrameNumber, contents: &[u8], out: &mut [u8], whole: bool) -> Answer
@@ -26,7 +26,7 @@ fn send(bytes: &[u8], frame: FrameNumber, contents: &[u8], out: &mut [u8], whole
     }
     let opened = answer.opened;
     let fields = opened.fields;
-    let places = capacity(fields);
+    let places = capacity(opened);
     let asked = look(contents, all_encoded(fields), out.len(), places);
     if asked.number != 0 {
         return asked;
@@ -71,7 +71,7 @@ pub fn spread(bytes: &[u8], bits: &[u8], out: &mut [u8]) -> Answer
     }
     let opened = answer.opened;
     let fields = opened.fields;
-    let places = capacity(fields);
+    let places = capacity(opened);
     let looked = look(bits, places, out.len(), places);
     if looked.number != 0 {
         return looked;

@@ -8,9 +8,9 @@ use crate::PartAnswer;
 use crate::asking::absent;
 use counters::TrchNumber;
 use opening::Opened;
+use opening::capacity;
 use opening::open_sheet;
 use opening::share;
-use sheet::sizes::capacity;
 
 fn made(number: u32, start: u64, length: u64) -> PartAnswer
     ensures { λ r. ⌜ r ≡ partMade number start length ⌝ }
@@ -46,7 +46,7 @@ pub fn part(bytes: &[u8], trch: TrchNumber, n: u64) -> PartAnswer
     if absent(fields, trch) {
         return made(10, 0, 0);
     }
-    if n != capacity(fields) {
+    if n != capacity(opened) {
         return made(11, 0, 0);
     }
     part_of(opened, trch.index())

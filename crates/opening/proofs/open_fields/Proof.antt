@@ -1,4 +1,5 @@
-use Rattle.opening.proofs.OpenLaws.{weighs}
+use native.Mathlib.Omega.{arith}
+use Rattle.opening.proofs.OpenLaws.{weighs, capacity-most}
 use borrow.Author.Needs.{needs}
 use Rattle.opening.proofs.open_fields.Statement.{statement}
 use Rattle.opening.proofs.open_fields.Tie as tie
@@ -7,7 +8,11 @@ sizes-requires : tie.Need-sizes-requires
 sizes-requires c κs = search needs
 
 cuts-requires : tie.Need-cuts-requires
-cuts-requires c κs = (c .before .pre .ranged, weighs (c .before .args .fields) (c .before .pre))
+cuts-requires c κs =
+    let s = c .before in
+    let f = s .args .fields in
+    let a = s .pre .0 in
+    (a .ranged, weighs f a, s .pre .1, omega (arith, s .pre .1, capacity-most f a))
 
 returns : tie.Need-returns
 returns c = rw (c .before .sizes .ensures, c .cuts .ensures)

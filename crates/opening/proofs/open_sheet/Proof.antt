@@ -1,29 +1,59 @@
+use mathlib.Core.Path.{_≡_, sym, ap, subst}
+use Rattle.sheet.specs.Numbers.{loadOf}
+use Rattle.sheet.specs.Range.{Ranged}
+use Rattle.sheet.specs.declared.sizes.Load.{Load}
+use Rattle.sheet.proofs.FieldLaws.{ranged-in}
+use Rattle.sheet.proofs.SizeLaws.{codes-few, load-is}
 use Rattle.opening.proofs.OpenLaws.{accepted-read, opened-yes, opened-no}
 use borrow.Author.Needs.{needs}
 use Rattle.opening.proofs.open_sheet.Statement.{statement}
 use Rattle.opening.proofs.open_sheet.Tie as tie
 
-read-sheet-requires : tie.Need-read-sheet-requires
-read-sheet-requires c κs = search needs
+ranged : (c : tie.After-read-fields) → Ranged (c .read-fields .result)
+ranged c = subst Ranged (sym (c .read-fields .ensures)) (ranged-in (c .before .before .args .bytes .now))
+
+load : (c : tie.After-whole-load) → c .whole-load .result ≡ loadOf (c .before .before .before .before .before .read-fields .result)
+load c = load-is (c .before .before .before .before .before .read-fields .result) _ _ (c .before .count .ensures .0) (c .whole-load .ensures .0)
+
+read-fields-requires : tie.Need-read-fields-requires
+read-fields-requires c κs = search needs
+
+count-requires : tie.Need-count-requires
+count-requires c κs = search needs
+
+whole-load-requires : tie.Need-whole-load-requires
+whole-load-requires c κs = codes-few (c .before .before .before .before .read-fields .result) _ (ranged (c .before .before .before .before)) (c .count .ensures .0)
+
+read-number-requires : tie.Need-read-number-requires
+read-number-requires c κs = (c .before .before .before .before .before .read-fields .ensures, ranged (c .before .before .before .before .before), load c)
 
 open-fields-requires : tie.Need-open-fields-requires
-open-fields-requires c κs =
-    accepted-read (c .before .before .before .before .args .bytes .now) (c .before .before .read-sheet .result) (c .before .before .read-sheet .ensures)
-    (c .before .if1 .taken)
+open-fields-requires c κs = (
+  accepted-read (c .before .before .before .before .before .before .before .before .before .args .bytes .now) _ (c .before .read-number .ensures) (c .before .before .before .before .before .before .before .read-fields .result) (c .before .before .before .before .before .before .before .read-fields .ensures)
+      (c .if1 .taken),
+  ap (λ (x : Load). x .sum) (load (c .before .before)),
+)
 
 returns : tie.Need-returns
 returns c =
-    opened-yes (c .before .before .before .before .before .args .bytes .now) (c .before .before .before .read-sheet .result)
-    (c .before .before .before .read-sheet .ensures) _ (c .before .before .if1 .taken) (c .open-fields .ensures)
+    opened-yes (c .before .before .before .before .before .before .before .before .before .before .args .bytes .now) _ (c .before .before .read-number .ensures) (c .before .before .before .before .before .before .before .before .read-fields .result) _ (c .before .before .before .before .before .before .before .before .read-fields .ensures)
+    (c .before .if1 .taken) (c .open-fields .ensures)
 
 zeros-requires : tie.Need-zeros-requires
 zeros-requires c κs = search needs
 
 returns-2 : tie.Need-returns-2
-returns-2 c =
-    opened-no (c .before .before .before .before .args .bytes .now) (c .before .before .read-sheet .result) (c .before .before .read-sheet .ensures) _
-    (c .before .if1 .left) (c .zeros .ensures)
+returns-2 c = opened-no (c .before .before .before .before .before .before .before .before .before .before .args .bytes .now) _ (c .before .before .read-number .ensures) _ (c .before .if1 .left) (c .zeros .ensures)
 
 pub open-sheet-spec : {M : Type 1} → statement M
 open-sheet-spec =
-    tie.close (tie.spec read-sheet-requires open-fields-requires returns zeros-requires returns-2)
+    tie.close
+    (tie.spec
+    read-fields-requires
+    count-requires
+    whole-load-requires
+    read-number-requires
+    open-fields-requires
+    returns
+    zeros-requires
+    returns-2)

@@ -1,17 +1,17 @@
-use borrow.Author.Needs.{needs}
 use native.Mathlib.Omega.{arith}
 use mathlib.Core.Path.{_≡_, refl, _∙_}
 use Prim.Native.Nat.{_-_, _≤_}
 use Rattle.laws.specs.Tables.{table}
 use Rattle.opening.proofs.OpenLaws.{sizesTo, sizes-more, sizes-all}
+use borrow.Author.Needs.{needs}
 use Rattle.opening.proofs.sizes.Statement.{statement}
 use Rattle.opening.proofs.sizes.Tie as tie
 
 abbrev Inv-loop : tie.InvT-loop
-Inv-loop fields n all₀ i₀ all i = (i ≤ n) × (all ≡ sizesTo fields i)
+Inv-loop n e tti all₀ i₀ all i = (i ≤ n) × (all ≡ sizesTo e tti i)
 
 abbrev μ-loop : tie.MeasureT-loop
-μ-loop fields n all₀ i₀ all i = n - i
+μ-loop n e tti all₀ i₀ all i = n - i
 
 count-requires : tie.Need-count-requires Inv-loop μ-loop
 count-requires c κs = search needs
@@ -23,17 +23,17 @@ loop-holds c = (omega arith, refl)
 mul-segment : tie.Need-mul-segment Inv-loop μ-loop
 mul-segment c = omega arith
 
-element-copy-out-segment : tie.Need-element-copy-out-segment Inv-loop μ-loop
-element-copy-out-segment c = omega arith
+array-read-segment : tie.Need-array-read-segment Inv-loop μ-loop
+array-read-segment c = omega arith
 
 mul-segment-2 : tie.Need-mul-segment-2 Inv-loop μ-loop
 mul-segment-2 c = omega arith
 
-element-copy-out-segment-2 : tie.Need-element-copy-out-segment-2 Inv-loop μ-loop
-element-copy-out-segment-2 c = omega arith
+array-read-segment-2 : tie.Need-array-read-segment-2 Inv-loop μ-loop
+array-read-segment-2 c = omega arith
 
 segment-requires : tie.Need-segment-requires Inv-loop μ-loop
-segment-requires c κs = c .before .before .before .before .before .pre .tti (c .before .before .before .loop .i) (omega arith)
+segment-requires c κs = c .before .before .before .before .before .pre .tti (c .before .loop .i) (omega arith)
 
 mul-all : tie.Need-mul-all Inv-loop μ-loop
 mul-all c = omega arith
@@ -49,12 +49,12 @@ loop-less c = omega arith
 
 loop-again : tie.Need-loop-again Inv-loop μ-loop
 loop-again c =
-    let a = c .before .before .before .before .before .before .args in
-    let l = c .before .before .before .before .loop in
-    (omega arith, sizes-more (a .t1) (l .i) (l .all) (omega arith) (l .inv .1) (c .segment .ensures .0))
+    let f = c .before .before .before .before .before .before .args .fields in
+    let l = c .before .before .loop in
+    (omega arith, sizes-more (f .e) (f .tti) (l .i) (l .all) (omega arith) (l .inv .1) (c .segment .ensures .0))
 
 returns : tie.Need-returns Inv-loop μ-loop
-returns c = c .before .loop .inv .1 ∙ sizes-all (c .before .before .before .args .t1) (c .before .loop .i) (omega arith)
+returns c = c .before .loop .inv .1 ∙ sizes-all (c .before .before .before .before .before .args .fields) (c .before .loop .i) (omega arith)
 
 pub sizes-spec : {M : Type 1} → statement M
 sizes-spec =
@@ -65,9 +65,9 @@ sizes-spec =
     count-requires
     loop-holds
     mul-segment
-    element-copy-out-segment
+    array-read-segment
     mul-segment-2
-    element-copy-out-segment-2
+    array-read-segment-2
     segment-requires
     mul-all
     array-write-all

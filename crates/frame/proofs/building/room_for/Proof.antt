@@ -16,7 +16,7 @@ abbrev μ-loop : tie.MeasureT-loop
 μ-loop sizes most₀ i₀ most i = mostChannels - i
 
 capacity-requires : tie.Need-capacity-requires Inv-loop μ-loop
-capacity-requires c κs = c .before .pre .accepted .ranged
+capacity-requires c κs = search needs
 
 loop-holds : tie.Need-loop-holds Inv-loop μ-loop
 loop-holds c = (omega arith, omega arith, λ j l. absurd (omega arith))

@@ -41,8 +41,8 @@ returns-4 c =
     (past _ 2 _ (version (c .before .before .before .before))
     (past _ 3 _ (slots (c .before .before)) (here _ 4 _ (sym (c .before .fails-fit .ensures) ∙ c .if4 .taken))))
 
-load-number-requires : tie.Need-load-number-requires
-load-number-requires c κs = search needs
+loaded-number-requires : tie.Need-loaded-number-requires
+loaded-number-requires c κs = search needs
 
 returns-5 : tie.Need-returns-5
 returns-5 c =
@@ -50,7 +50,7 @@ returns-5 c =
     (past _ 2 _ (version (c .before .before .before .before .before))
     (past _ 3 _ (slots (c .before .before .before))
     (past _ 4 _ (sym (c .before .before .fails-fit .ensures) ∙ c .before .if4 .left)
-    (c .load-number .ensures ∙ ap (λ (x : Sheet). firstOf (loadLines x)) (c .before .before .before .before .before .before .before .before .before .pre .0)))))
+    (c .loaded-number .ensures ∙ ap (λ (x : Sheet). firstOf (loadLines x)) (c .before .before .before .before .before .before .before .before .before .pre .0)))))
 
 pub read-number-spec : {M : Type 1} → statement M
 read-number-spec =
@@ -61,5 +61,5 @@ read-number-spec =
     returns-3
     fails-fit-requires
     returns-4
-    load-number-requires
+    loaded-number-requires
     returns-5)

@@ -1,18 +1,19 @@
-use borrow.Author.Needs.{needs}
 use native.Mathlib.Omega.{arith}
 use mathlib.Core.Path.{_≡_, refl, ap, _∙_}
 use Prim.Native.Nat.{_*_, _-_, _≤_}
+use lib.ListN.{getD}
 use Rattle.laws.specs.Sums.{sumTo}
 use Rattle.laws.proofs.SumLaws.{sum-more}
 use Rattle.sheet.specs.Fields.{encodedOf}
+use borrow.Author.Needs.{needs}
 use Rattle.sheet.proofs.sizes.all_encoded.Statement.{statement}
 use Rattle.sheet.proofs.sizes.all_encoded.Tie as tie
 
 abbrev Inv-loop : tie.InvT-loop
-Inv-loop fields n sum₀ i₀ sum i = (i ≤ n) × (sum ≡ sumTo (encodedOf fields) i) × (sum ≤ 65535 * i)
+Inv-loop n e sum₀ i₀ sum i = (i ≤ n) × (sum ≡ sumTo (λ k. getD e k 0) i) × (sum ≤ 65535 * i)
 
 abbrev μ-loop : tie.MeasureT-loop
-μ-loop fields n sum₀ i₀ sum i = n - i
+μ-loop n e sum₀ i₀ sum i = n - i
 
 count-requires : tie.Need-count-requires Inv-loop μ-loop
 count-requires c κs = search needs
@@ -24,8 +25,8 @@ loop-holds c = (omega arith, refl, omega arith)
 mul-wide : tie.Need-mul-wide Inv-loop μ-loop
 mul-wide c = omega arith
 
-element-copy-out-wide : tie.Need-element-copy-out-wide Inv-loop μ-loop
-element-copy-out-wide c = omega arith
+array-read-wide : tie.Need-array-read-wide Inv-loop μ-loop
+array-read-wide c = omega arith
 
 wide-requires : tie.Need-wide-requires Inv-loop μ-loop
 wide-requires c κs = search needs
@@ -41,16 +42,15 @@ loop-less c = omega arith
 
 loop-again : tie.Need-loop-again Inv-loop μ-loop
 loop-again c =
-    let a = c .before .before .before .before .before .args in
-    let l = c .before .before .before .loop in
-    (omega arith, sum-more (encodedOf (a .t1)) (l .i) (l .inv .1) (c .wide .ensures .0), omega arith)
+    let l = c .before .before .loop in
+    (omega arith, sum-more (encodedOf (c .before .before .before .before .before .args .fields)) (l .i) (l .inv .1) (c .wide .ensures .0), omega arith)
 
 returns : tie.Need-returns Inv-loop μ-loop
 returns c =
-    let a = c .before .before .before .args in
+    let f = c .before .before .before .before .args .fields in
     let l = c .before .loop in
-    let e : l .i ≡ a .t1 .channels = omega arith in
-    l .inv .1 ∙ ap (sumTo (encodedOf (a .t1))) e
+    let e : l .i ≡ f .channels = omega arith in
+    l .inv .1 ∙ ap (sumTo (encodedOf f)) e
 
 pub all-encoded-spec : {M : Type 1} → statement M
 all-encoded-spec =
@@ -61,7 +61,7 @@ all-encoded-spec =
     count-requires
     loop-holds
     mul-wide
-    element-copy-out-wide
+    array-read-wide
     wide-requires
     add-sum
     add-i

@@ -1,18 +1,20 @@
-use borrow.Author.Needs.{needs}
 use native.Mathlib.Omega.{arith}
 use mathlib.Core.Path.{_≡_, refl, ap, _∙_}
 use Prim.Native.Nat.{_*_, _-_, _≤_}
+use lib.ListN.{getD}
 use Rattle.laws.specs.Sums.{sumTo}
 use Rattle.laws.proofs.SumLaws.{sum-more}
-use Rattle.sheet.specs.Sizes.{equalisedOf}
+use Rattle.sheet.specs.Sizes.{framesIn, segmentIn, equalisedOf}
+use borrow.Author.Needs.{needs}
 use Rattle.sheet.proofs.sizes.all_equalised.Statement.{statement}
 use Rattle.sheet.proofs.sizes.all_equalised.Tie as tie
 
 abbrev Inv-loop : tie.InvT-loop
-Inv-loop fields n sum₀ i₀ sum i = (i ≤ n) × (sum ≡ sumTo (equalisedOf fields) i) × (sum ≤ 524280 * i)
+Inv-loop n e tti sum₀ i₀ sum i =
+    (i ≤ n) × (sum ≡ sumTo (λ k. framesIn (getD tti k 0) * segmentIn (getD e k 0) (framesIn (getD tti k 0))) i) × (sum ≤ 524280 * i)
 
 abbrev μ-loop : tie.MeasureT-loop
-μ-loop fields n sum₀ i₀ sum i = n - i
+μ-loop n e tti sum₀ i₀ sum i = n - i
 
 count-requires : tie.Need-count-requires Inv-loop μ-loop
 count-requires c κs = search needs
@@ -24,17 +26,17 @@ loop-holds c = (omega arith, refl, omega arith)
 mul-equalised : tie.Need-mul-equalised Inv-loop μ-loop
 mul-equalised c = omega arith
 
-element-copy-out-equalised : tie.Need-element-copy-out-equalised Inv-loop μ-loop
-element-copy-out-equalised c = omega arith
+array-read-equalised : tie.Need-array-read-equalised Inv-loop μ-loop
+array-read-equalised c = omega arith
 
 mul-equalised-2 : tie.Need-mul-equalised-2 Inv-loop μ-loop
 mul-equalised-2 c = omega arith
 
-element-copy-out-equalised-2 : tie.Need-element-copy-out-equalised-2 Inv-loop μ-loop
-element-copy-out-equalised-2 c = omega arith
+array-read-equalised-2 : tie.Need-array-read-equalised-2 Inv-loop μ-loop
+array-read-equalised-2 c = omega arith
 
 equalised-requires : tie.Need-equalised-requires Inv-loop μ-loop
-equalised-requires c κs = c .before .before .before .before .before .pre .tti (c .before .before .before .loop .i) (omega arith)
+equalised-requires c κs = c .before .before .before .before .before .pre .tti (c .before .loop .i) (omega arith)
 
 add-sum : tie.Need-add-sum Inv-loop μ-loop
 add-sum c = omega arith
@@ -47,16 +49,15 @@ loop-less c = omega arith
 
 loop-again : tie.Need-loop-again Inv-loop μ-loop
 loop-again c =
-    let a = c .before .before .before .before .before .before .args in
-    let l = c .before .before .before .before .loop in
-    (omega arith, sum-more (equalisedOf (a .t1)) (l .i) (l .inv .1) (c .equalised .ensures .0), omega arith)
+    let l = c .before .before .loop in
+    (omega arith, sum-more (equalisedOf (c .before .before .before .before .before .before .args .fields)) (l .i) (l .inv .1) (c .equalised .ensures .0), omega arith)
 
 returns : tie.Need-returns Inv-loop μ-loop
 returns c =
-    let a = c .before .before .before .args in
+    let f = c .before .before .before .before .before .args .fields in
     let l = c .before .loop in
-    let e : l .i ≡ a .t1 .channels = omega arith in
-    l .inv .1 ∙ ap (sumTo (equalisedOf (a .t1))) e
+    let e : l .i ≡ f .channels = omega arith in
+    l .inv .1 ∙ ap (sumTo (equalisedOf f)) e
 
 pub all-equalised-spec : {M : Type 1} → statement M
 all-equalised-spec =
@@ -67,9 +68,9 @@ all-equalised-spec =
     count-requires
     loop-holds
     mul-equalised
-    element-copy-out-equalised
+    array-read-equalised
     mul-equalised-2
-    element-copy-out-equalised-2
+    array-read-equalised-2
     equalised-requires
     add-sum
     add-i

@@ -1,21 +1,22 @@
-use borrow.Author.Needs.{needs}
 use native.Mathlib.Omega.{arith}
 use mathlib.Core.Path.{_≡_, refl, ap, _∙_}
 use Prim.Native.Nat.{_+_, _*_, _-_, _≤_}
+use lib.ListN.{getD}
 use Rattle.laws.specs.Sums.{sumTo}
 use Rattle.laws.proofs.SumLaws.{sum-more}
 use Rattle.sheet.specs.Counts.{mostCodes}
-use Rattle.sheet.specs.Layout.{slotWidth}
+use Rattle.sheet.specs.Layout.{channelAt, slotWidth}
 use Rattle.sheet.specs.Fields.{phchsOf}
 use Rattle.sheet.specs.Sizes.{slotAt}
+use borrow.Author.Needs.{needs}
 use Rattle.sheet.proofs.sizes.bits_needed.Statement.{statement}
 use Rattle.sheet.proofs.sizes.bits_needed.Tie as tie
 
 abbrev Inv-loop : tie.InvT-loop
-Inv-loop fields n sum₀ t₀ sum t = (t ≤ n) × (sum ≡ slotAt fields t) × (sum ≤ 208 + 196 * t)
+Inv-loop n phchs sum₀ t₀ sum t = (t ≤ n) × (sum ≡ sum₀ + sumTo (λ k. slotWidth (getD phchs k 0)) t) × (sum ≤ 208 + 196 * t)
 
 abbrev μ-loop : tie.MeasureT-loop
-μ-loop fields n sum₀ t₀ sum t = n - t
+μ-loop n phchs sum₀ t₀ sum t = n - t
 
 count-requires : tie.Need-count-requires Inv-loop μ-loop
 count-requires c κs = search needs
@@ -36,8 +37,8 @@ loop-holds c = (omega arith, omega arith, omega arith)
 mul-count : tie.Need-mul-count Inv-loop μ-loop
 mul-count c = omega arith
 
-element-copy-out-count : tie.Need-element-copy-out-count Inv-loop μ-loop
-element-copy-out-count c = omega arith
+array-read-count : tie.Need-array-read-count Inv-loop μ-loop
+array-read-count c = omega arith
 
 count-requires-3 : tie.Need-count-requires-3 Inv-loop μ-loop
 count-requires-3 c κs = search needs
@@ -59,18 +60,18 @@ loop-less c = omega arith
 
 loop-again : tie.Need-loop-again Inv-loop μ-loop
 loop-again c =
-    let a = c .before .before .before .before .before .before .args in
-    let l = c .before .before .before .loop in
-    let s = sum-more (λ k. slotWidth (phchsOf (a .t1) k)) (l .t) refl (ap slotWidth (c .count3 .ensures .0)) in
-    let b : phchsOf (a .t1) (l .t) ≤ mostCodes = c .before .before .before .before .before .before .pre .phch16 (l .t) (omega arith) in
+    let f = c .before .before .before .before .before .before .args .fields in
+    let l = c .before .before .loop in
+    let s = sum-more (λ k. slotWidth (phchsOf f k)) (l .t) refl (ap slotWidth (c .count3 .ensures .0)) in
+    let b : phchsOf f (l .t) ≤ mostCodes = c .before .before .before .before .before .before .pre .phch16 (l .t) (omega arith) in
     (omega arith, omega arith, omega arith)
 
 returns : tie.Need-returns Inv-loop μ-loop
 returns c =
-    let a = c .before .before .before .before .args in
+    let f = c .before .before .before .before .before .args .fields in
     let l = c .before .loop in
-    let e : l .t ≡ a .t1 .slots = omega arith in
-    (l .inv .1 ∙ ap (slotAt (a .t1)) e, omega arith)
+    let e : l .t ≡ f .slots = omega arith in
+    (omega (arith, ap (slotAt f) e), omega arith)
 
 pub bits-needed-spec : {M : Type 1} → statement M
 bits-needed-spec =
@@ -84,7 +85,7 @@ bits-needed-spec =
     add-sum
     loop-holds
     mul-count
-    element-copy-out-count
+    array-read-count
     count-requires-3
     mul-sum-2
     add-sum-2

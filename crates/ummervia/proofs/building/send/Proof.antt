@@ -67,7 +67,7 @@ returns c =
     of-both (a .whole) (buildInto (a .bytes .now) (a .frame .0) (a .contents .now) (a .out .now)) (multiplexInto (a .bytes .now) (a .frame .0) (a .contents .now) (a .out .now)) (left (λ sh. bitFrame sh (a .frame .0) (a .contents .now))) (left (λ sh. multiplexedBits sh (a .frame .0) (a .contents .now)))
 
 capacity-requires : tie.Need-capacity-requires
-capacity-requires c κs = opens (c .before) .accepted .ranged
+capacity-requires c κs = opens (c .before)
 
 all-encoded-requires : tie.Need-all-encoded-requires
 all-encoded-requires c κs = opens (c .before .before) .accepted .ranged .eight

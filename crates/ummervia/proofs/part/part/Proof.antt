@@ -55,7 +55,7 @@ returns-2 c =
 capacity-requires : tie.Need-capacity-requires
 capacity-requires c κs =
     let o = c .before .before .before .before .before in
-    opens (o .before .before .args .bytes .now) (o .open-sheet .result) (o .open-sheet .ensures) (c .before .before .before .before .if1 .left) .accepted .ranged
+    opens (o .before .before .args .bytes .now) (o .open-sheet .result) (o .open-sheet .ensures) (c .before .before .before .before .if1 .left)
 
 made-requires-3 : tie.Need-made-requires-3
 made-requires-3 c κs = search needs
