@@ -15,9 +15,9 @@ ghost use Rattle.frame.specs.Frame.{sentOf, multiplexedBits};
 ghost use Rattle.frame.specs.Room.{Segments};
 use counters::FrameNumber;
 use matching::shares::Change;
+use matching::shares::difference;
 use offset::start;
 use opening::Opened;
-use opening::change;
 use sheet::count;
 use sheet::sizes::frames;
 
@@ -48,10 +48,11 @@ fn send(
     ensures { λ _. ⌜ now (out .exit) ≡ sentOf asIs (opened .fields) (frame .0) i (equalised 0 (ttiOf (opened .fields) i) (sizeOf (opened .fields) i) (now (contents .entry))) ⌝ }
 {
     let fields = opened.fields;
-    let tti = fields.tti[i];
+    let ttis = fields.tti;
+    let tti = ttis[i];
     let k = frame.within(frames(tti));
     interleaving::first::segment(contents, count(tti), room.len(), k, room);
-    let d = change(opened, i);
+    let d = difference(out.len() as u64, room.len() as u64);
     let e = start_of(room.len() as u64, d, tti, frame);
     pattern::match_rate(room, out, e as usize, d.less, d.size as usize);
 }
@@ -68,13 +69,14 @@ pub fn multiplex_bits(
     ensures { λ _. ⌜ now (out .exit) ≡ multiplexedBits (opened .fields) (frame .0) (now (contents .entry)) ⌝ }
 {
     let fields = opened.fields;
+    let es = fields.e;
     let sizes = opened.sizes;
     let cuts = opened.cuts;
     let n = count(fields.channels);
     let mut i: usize = 0;
     let mut from: usize = 0;
     while i < n {
-        let to = from + count(fields.e[i]);
+        let to = from + count(es[i]);
         let a = cuts[i] as usize;
         let z = cuts[i + 1] as usize;
         let size = sizes[i] as usize;

@@ -8,20 +8,16 @@ ghost use Rattle.frame.specs.Frame.{slotStart, interleavedSlots, interle
 use sheet::Sheet;
 use sheet::count;
 use sheet::counts::CODES;
-use sheet::sizes::slot_capacity;
+use sheet::sizes::slot_load;
+use sheet::sizes::whole_load;
 
 // Where slot t begins.
 pub fn slot_start(fields: Sheet, t: usize) -> u64
     requires { ⌜ Ranged fields × (t < fields .slots) ⌝ }
     ensures { λ r. ⌜ r ≡ slotStart fields t ⌝ }
 {
-    let mut sum: u64 = 0;
-    let mut k: usize = 0;
-    while k < t {
-        sum += slot_capacity(fields, k);
-        k += 1;
-    }
-    sum
+    let load = whole_load(&fields.phchs, &fields.caps, t);
+    load.sum
 }
 
 // Mode 1: each slot's part interleaved by itself.
@@ -29,11 +25,13 @@ fn interleave_slots(bits: &[u8], fields: Sheet, out: &mut [u8])
     requires { ⌜ Accepted fields × (length (now bits) ≡ capacityAll fields) × (length (now out) ≡ capacityAll fields) ⌝ }
     ensures { λ _. ⌜ now (out .exit) ≡ interleavedSlots fields (now (bits .entry)) ⌝ }
 {
-    let n = count(fields.slots);
+    let phchs = fields.phchs;
+    let caps = fields.caps;
     let mut t: usize = 0;
     let mut a: usize = 0;
-    while t < n {
-        let e = a + slot_capacity(fields, t) as usize;
+    while t < count(fields.slots) {
+        let one = slot_load(&caps, CODES * t, count(phchs[t]));
+        let e = a + one.sum as usize;
         interleaving::second::interleave(&bits[a..e], &mut out[a..e]);
         a = e;
         t += 1;
@@ -45,14 +43,16 @@ fn map_slots(bits: &[u8], fields: Sheet, out: &mut [u8])
     requires { ⌜ Accepted fields × (length (now bits) ≡ capacityAll fields) × (length (now out) ≡ capacityAll fields) ⌝ }
     ensures { λ _. ⌜ now (out .exit) ≡ mappedSlots fields (now (bits .entry)) ⌝ }
 {
+    let phchs = fields.phchs;
     let caps = fields.caps;
-    let n = count(fields.slots);
     let mut t: usize = 0;
     let mut a: usize = 0;
-    while t < n {
-        let e = a + slot_capacity(fields, t) as usize;
+    while t < count(fields.slots) {
         let from = CODES * t;
-        let to = from + count(fields.phchs[t]);
+        let n = count(phchs[t]);
+        let to = from + n;
+        let one = slot_load(&caps, from, n);
+        let e = a + one.sum as usize;
         mapping::map_slot(&bits[a..e], &caps[from..to], &mut out[a..e]);
         a = e;
         t += 1;

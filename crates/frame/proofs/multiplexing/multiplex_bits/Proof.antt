@@ -26,12 +26,12 @@ use Rattle.frame.proofs.multiplexing.multiplex_bits.Statement.{statemen
 use Rattle.frame.proofs.multiplexing.multiplex_bits.Tie as tie
 
 abbrev Inv-loop : tie.InvT-loop
-Inv-loop contents opened frame room₀ out₀ fields sizes cuts n i₀ from₀ room out i from =
+Inv-loop contents opened frame room₀ out₀ es sizes cuts n i₀ from₀ room out i from =
     (i ≤ n) × (from ≡ sumTo (encodedOf (opened .fields)) i) × (length room ≡ length room₀) × (length out ≡ length out₀)
     × Laid out₀ out (cutOf (opened .fields) i) (joined (λ k. sentOf asIs (opened .fields) (frame .0) k (bitsOf (opened .fields) contents k)) i)
 
 abbrev μ-loop : tie.MeasureT-loop
-μ-loop contents opened frame room₀ out₀ fields sizes cuts n i₀ from₀ room out i from = n - i
+μ-loop contents opened frame room₀ out₀ es sizes cuts n i₀ from₀ room out i from = n - i
 
 -- the channel's part of the contents, of the frame, and its segment
 module _ (c : tie.After-count2 Inv-loop μ-loop) where
@@ -39,7 +39,7 @@ module _ (c : tie.After-count2 Inv-loop μ-loop) where
   o = c .before .before .before .before .before .before .before .before .before .before .before .args .opened
 
   abbrev i : ℕ
-  i = c .before .before .before .loop .i
+  i = c .before .before .loop .i
 
   opens : Opens o
   opens = c .before .before .before .before .before .before .before .before .before .before .before .pre .0
@@ -47,19 +47,19 @@ module _ (c : tie.After-count2 Inv-loop μ-loop) where
   inside : i < o .fields .channels
   inside = omega arith
 
-  end : c .before .before .before .loop .from + c .count2 .result ≤ encodedAll (o .fields)
-  end = content-within o opens i inside (c .before .before .before .loop .inv .1) (c .count2 .ensures .0)
+  end : c .before .before .loop .from + c .count2 .result ≤ encodedAll (o .fields)
+  end = content-within o opens i inside (c .before .before .loop .inv .1) (c .count2 .ensures .0)
 
   up : getD (o .cuts) i 0 ≤ getD (o .cuts) (i + 1) 0
   up = cut-rises o opens i inside
 
-  last : getD (o .cuts) (i + 1) 0 ≤ length (c .before .before .before .loop .out)
+  last : getD (o .cuts) (i + 1) 0 ≤ length (c .before .before .loop .out)
   last = omega (arith, cut-within o opens i inside)
 
-  fits : getD (o .sizes) i 0 ≤ length (c .before .before .before .loop .room)
+  fits : getD (o .sizes) i 0 ≤ length (c .before .before .loop .room)
   fits =
       let s = c .before .before .before .before .before .before .before .before .before .before .before in
-      omega (arith, size-is o opens i inside, s .pre .2 i inside, c .before .before .before .loop .inv .2)
+      omega (arith, size-is o opens i inside, s .pre .2 i inside, c .before .before .loop .inv .2)
 
 count-requires : tie.Need-count-requires Inv-loop μ-loop
 count-requires c κs = search needs
@@ -67,14 +67,14 @@ count-requires c κs = search needs
 loop-holds : tie.Need-loop-holds Inv-loop μ-loop
 unfolding sumTo joined
 loop-holds c =
-    let s = c .before .before .before .before .before .before .before in
+    let s = c .before .before .before .before .before .before .before .before in
     (omega arith, refl, refl, refl, sent-none (s .args .opened .fields) (s .pre .0 .accepted) _)
 
 mul-count : tie.Need-mul-count Inv-loop μ-loop
 mul-count c = omega arith
 
-element-copy-out-count : tie.Need-element-copy-out-count Inv-loop μ-loop
-element-copy-out-count c = omega arith
+array-read-count : tie.Need-array-read-count Inv-loop μ-loop
+array-read-count c = omega arith
 
 count-requires-2 : tie.Need-count-requires-2 Inv-loop μ-loop
 count-requires-2 c κs = search needs
@@ -130,7 +130,7 @@ part-send-end-2 c = last (c .before .before)
 send-requires : tie.Need-send-requires Inv-loop μ-loop
 send-requires c κs =
     let k = c .before .before .before in
-    let l = k .before .before .before .loop in
+    let l = k .before .before .loop in
     let s = k .before .before .before .before .before .before .before .before .before .before .before in (
       opens k,
       inside k,
@@ -149,7 +149,7 @@ loop-again : tie.Need-loop-again Inv-loop μ-loop
 unfolding bitsOf
 loop-again c =
     let k = c .before .before .before .before .before .before .before .before in
-    let l = k .before .before .before .loop in
+    let l = k .before .before .loop in
     let s = k .before .before .before .before .before .before .before .before .before .before .before in
     let y = c .before .before .before .before .send in
     let sh = o k .fields in
@@ -174,7 +174,7 @@ same-length-2 c = c .before .loop .inv .3
 returns : tie.Need-returns Inv-loop μ-loop
 unfolding multiplexedBits multiplexed
 returns c =
-    let s = c .before .before .before .before .before .before .before .before .before in
+    let s = c .before .before .before .before .before .before .before .before .before .before in
     let l = c .before .loop in
     let sh = s .args .opened .fields in
     let e : l .i ≡ sh .channels = omega arith in
@@ -190,7 +190,7 @@ multiplex-bits-spec =
     count-requires
     loop-holds
     mul-count
-    element-copy-out-count
+    array-read-count
     count-requires-2
     add-to
     mul-a
