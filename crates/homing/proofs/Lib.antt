@@ -7,3 +7,4 @@ pub mod Exact
 pub mod Kept
 pub mod WholeTti
 pub mod TakeLaws
+pub mod ReceiveLaws

@@ -6,6 +6,7 @@ ghost use Rattle.sheet.specs.Counts.{mostEncoded};
 ghost use Rattle.sheet.specs.Sizes.{sizeOf, capacityAll, equalisedAll};
 ghost use Rattle.matching.specs.Shares.{shareOf};
 ghost use Rattle.opening.specs.Opened.{Opens};
+ghost use Rattle.homing.specs.Home.{takenCount};
 ghost use Rattle.homing.specs.Taking.{Walks, homeIn, hearIn, surveyIn, takenFrom};
 use counters::FrameNumber;
 use frame::multiplexing::start_of;
@@ -107,4 +108,21 @@ pub fn take_segments(values: &[f32], opened: Opened, number: FrameNumber, joined
         base += f as usize * size;
         i += 1;
     }
+}
+
+// How many values those segments have: the sum of N.
+pub fn count_taken(opened: Opened) -> u64
+    requires { ⌜ Opens opened ⌝ }
+    ensures { λ r. ⌜ r ≡ takenCount (opened .fields) ⌝ }
+{
+    let fields = opened.fields;
+    let sizes = opened.sizes;
+    let n = count(fields.channels);
+    let mut sum: u64 = 0;
+    let mut i: usize = 0;
+    while i < n {
+        sum += sizes[i];
+        i += 1;
+    }
+    sum
 }
