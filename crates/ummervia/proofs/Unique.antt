@@ -3,6 +3,7 @@
 use mathlib.Core.Path.{_≡_, sym, _∙_}
 use mathlib.Core.List.{List}
 use Prim.Native.Nat.{ℕ}
+use lib.Ieee.{Float}
 use Rattle.counters.specs.declared.Answer.{Answer}
 use Rattle.sheet.specs.Numbers.{readAnswer}
 use Rattle.sheet.specs.declared.Sheet.{Sheet}
@@ -12,6 +13,7 @@ use Rattle.ummervia.specs.Outcome.{Outcome}
 use Rattle.ummervia.specs.Sheets.{readInto, writeInto, lengthFrom, writeFrom}
 use Rattle.ummervia.specs.Asking.{sizesAnswer, channelAnswer}
 use Rattle.ummervia.specs.Building.{buildInto, multiplexInto, spreadInto}
+use Rattle.ummervia.specs.Receiving.{gatherInto, takeInto}
 use Rattle.ummervia.specs.Naming.{Naming, nameAnswer}
 use Rattle.ummervia.specs.Part.{partAnswer, partOf}
 use Rattle.ummervia.specs.declared.SizesAnswer.{SizesAnswer}
@@ -59,7 +61,15 @@ part bytes trch n x y = only (partAnswer bytes trch n)
 pub part-values : {A : Type 0} (bytes : List ℕ) (trch : ℕ) (vs x y : List A) → x ≡ partOf bytes trch vs → y ≡ partOf bytes trch vs → x ≡ y
 part-values bytes trch vs x y = only (partOf bytes trch vs)
 
--- the calls in C; umv_sizes, umv_channel, umv_build, umv_multiplex, umv_spread, umv_name and umv_part leave what the
+pub gather : (bytes : List ℕ) (frame old : List Float) (x y : Outcome Float)
+    → x ≡ gatherInto bytes frame old → y ≡ gatherInto bytes frame old → x ≡ y
+gather bytes frame old x y = only (gatherInto bytes frame old)
+
+pub take-back : (bytes : List ℕ) (number : ℕ) (frame old : List Float) (x y : Outcome Float)
+    → x ≡ takeInto bytes number frame old → y ≡ takeInto bytes number frame old → x ≡ y
+take-back bytes number frame old x y = only (takeInto bytes number frame old)
+
+-- the calls in C; umv_sizes, umv_channel, umv_build, umv_multiplex, umv_spread, umv_name, umv_part, umv_gather and umv_take_back leave what the
 -- calls in Rattle do
 pub umv-sheet-read : (bytes old : List ℕ) (x y : Outcome ℕ) → x ≡ readInto bytes old → y ≡ readInto bytes old → x ≡ y
 umv-sheet-read bytes old x y = only (readInto bytes old)

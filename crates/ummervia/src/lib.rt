@@ -2,10 +2,12 @@
 pub mod asking;
 pub mod building;
 pub mod exports;
+pub mod exports_home;
 pub mod flat;
 pub mod looking;
 pub mod name;
 pub mod part;
+pub mod receiving;
 pub mod sheets;
 
 use joining::Heard;

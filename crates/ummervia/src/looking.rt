@@ -1,10 +1,12 @@
 // What several calls ask first: the sheet, the frame number, the lengths, and that the bytes lent are bits.
 ghost use mathlib.Core.Path.{_≡_};
 ghost use Rattle.frame.specs.Bit.{isBit};
+ghost use Rattle.joining.specs.Range.{inRange};
 ghost use Rattle.ummervia.specs.Looking.{frameLines, lookAnswer, Begun};
 use counters::Answer;
 use counters::FrameNumber;
 use frame::checking::first_bad;
+use joining::checking::first_out;
 use opening::OpenAnswer;
 use opening::open_sheet;
 
@@ -37,6 +39,26 @@ pub fn look(bits: &[u8], needed: u64, n: usize, room: u64) -> Answer
     }
     let bad = first_bad(bits);
     if bad < bits.len() {
+        return Answer {
+            number: 12,
+            at: bad as u64,
+        };
+    }
+    Answer { number: 0, at: 0 }
+}
+
+// The same of soft values.
+pub fn look_soft(values: &[f32], needed: u64, n: usize, room: u64) -> Answer
+    ensures { λ r. ⌜ r ≡ lookAnswer inRange (now (values .entry)) needed n room ⌝ }
+{
+    if values.len() as u64 != needed {
+        return Answer { number: 11, at: 0 };
+    }
+    if n as u64 != room {
+        return Answer { number: 11, at: 0 };
+    }
+    let bad = first_out(values);
+    if bad < values.len() {
         return Answer {
             number: 12,
             at: bad as u64,
