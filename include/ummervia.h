@@ -170,6 +170,73 @@ uint32_t umv_name(const uint8_t *sheet, size_t sheet_len, uint32_t frame_number,
 uint32_t umv_part(const uint8_t *sheet, size_t sheet_len, uint32_t trch, uint64_t multiplexed_len, uint64_t *start,
                   uint64_t *length);
 
+/*
+ * The calls below bring a received frame home. A soft value is a float from -65,536 to 65,536, both allowed; a NaN is not.
+ */
+
+/*
+ * Gathers a received frame (steps 9 and 8 undone): its values as they stood before second interleaving, channel after
+ * channel (umv_part says where each lies). Values are moved bit for bit.
+ * frame         frame_len soft values, only read, in the frame's order; frame_len must be D
+ * multiplexed   multiplexed_len floats, overwritten when the call is accepted; multiplexed_len must be D
+ * at            answer: the values written, D; with 12 the index in frame of the first value out of range
+ * Numbers: 1 to 8 of the sheet; then 11, 12.
+ */
+uint32_t umv_gather(const uint8_t *sheet, size_t sheet_len, const float *frame, size_t frame_len, float *multiplexed,
+                    size_t multiplexed_len, uint64_t *at);
+
+/*
+ * Takes a received frame back (steps 9 to 6 undone) into a buffer that gathers a TTI: of each channel the N values of this
+ * frame's segment are written, and nothing else of the buffer. A bit sent once keeps its value bit for bit, copies are added in
+ * the order in which they were sent, each sum rounded once, and a punctured bit gets +0.0.
+ * frame_number  0 to 255: the number under which the frame was built
+ * frame         frame_len soft values, only read, in the frame's order; frame_len must be D
+ * joined        joined_len floats: channels in order, T_i values each in first-interleaved order; joined_len must be the
+ *               sum of all T_i (umv_sizes)
+ * at            answer: the values written, the sum of N; with 12 the index in frame of the first value out of range
+ * Numbers: 1 to 8 of the sheet; then 9, 11, 12.
+ */
+uint32_t umv_take_back(const uint8_t *sheet, size_t sheet_len, uint32_t frame_number, const float *frame,
+                       size_t frame_len, float *joined, size_t joined_len, uint64_t *at);
+
+/*
+ * Finishes one channel (steps 2 and 1 undone) once all of its F frames were taken back: its E values in the coder's order,
+ * fillers dropped. Values are moved bit for bit and not looked at.
+ * trch          the channel, counted from 1, at most I
+ * joined        joined_len floats, only read: the buffer of umv_take_back; joined_len must be the sum of all T_i
+ * coded         coded_len floats, overwritten when the call is accepted; coded_len must be E of the channel
+ * at            answer: the values written, E
+ * Numbers: 1 to 8 of the sheet; then 10 if trch is 0 or over I; then 11.
+ */
+uint32_t umv_finish(const uint8_t *sheet, size_t sheet_len, uint32_t trch, const float *joined, size_t joined_len,
+                    float *coded, size_t coded_len, uint64_t *at);
+
+/*
+ * What was heard of one bit of a channel's segment in a received frame.
+ * trch          the channel, counted from 1, at most I
+ * bit           the bit of this frame's segment, counted from 1, at most N
+ * at            answer: 0; with 12 the index in frame of the first value out of range
+ * value         answer: the value, the joined value of several copies, or +0.0 where nothing was heard
+ * copies        answer: how many copies were sent; 0 says that the bit was punctured
+ * The other parameters are those of umv_take_back.
+ * Numbers: 1 to 8 of the sheet; then 9; then 10 if there is no such channel or bit; then 11, 12.
+ */
+uint32_t umv_heard(const uint8_t *sheet, size_t sheet_len, uint32_t frame_number, const float *frame, size_t frame_len,
+                   uint32_t trch, uint32_t bit, uint64_t *at, float *value, uint64_t *copies);
+
+/*
+ * A channel's link record for one received frame.
+ * trch          the channel, counted from 1, at most I
+ * at            answer: 0; with 12 the index in frame of the first value out of range
+ * least         answer: the least magnitude among the channel's joined values; +0.0 if no bit was heard
+ * greatest      answer: the greatest
+ * punctured     answer: how many bits of the segment were punctured
+ * The other parameters are those of umv_take_back.
+ * Numbers: 1 to 8 of the sheet; then 9; then 10 if trch is 0 or over I; then 11, 12.
+ */
+uint32_t umv_link(const uint8_t *sheet, size_t sheet_len, uint32_t frame_number, const float *frame, size_t frame_len,
+                  uint32_t trch, uint64_t *at, float *least, float *greatest, uint64_t *punctured);
+
 #ifdef __cplusplus
 }
 #endif

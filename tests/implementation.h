@@ -41,6 +41,8 @@ static const struct implementation library = {
     .build = umv_build,
     .multiplex = umv_multiplex,
     .spread = umv_spread,
+    .gather = umv_gather,
+    .take_back = umv_take_back,
     .name_of = umv_name,
     .part = umv_part,
 };

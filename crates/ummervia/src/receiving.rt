@@ -10,10 +10,10 @@ use homing::gathering::gather_values;
 use homing::receiving::Asked;
 use homing::receiving::receive;
 use homing::taking::count_taken;
+use opening::capacity;
 use opening::open_sheet;
 use sheet::counts::MOST_BITS;
 use sheet::sizes::all_equalised;
-use sheet::sizes::capacity;
 
 // Steps 9 and 8 undone: the values in the order of the multiplexed frame.
 pub fn gather(bytes: &[u8], frame: &[f32], out: &mut [f32]) -> Answer
@@ -26,7 +26,7 @@ pub fn gather(bytes: &[u8], frame: &[f32], out: &mut [f32]) -> Answer
     }
     let opened = answer.opened;
     let fields = opened.fields;
-    let places = capacity(fields);
+    let places = capacity(opened);
     let looked = look_soft(frame, places, out.len(), places);
     if looked.number != 0 {
         return looked;
@@ -54,7 +54,7 @@ pub fn take_back(bytes: &[u8], number: FrameNumber, frame: &[f32], joined: &mut 
     }
     let opened = answer.opened;
     let fields = opened.fields;
-    let looked = look_soft(frame, capacity(fields), joined.len(), all_equalised(fields));
+    let looked = look_soft(frame, capacity(opened), joined.len(), all_equalised(fields));
     if looked.number != 0 {
         return looked;
     }

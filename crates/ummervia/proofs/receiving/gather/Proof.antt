@@ -50,7 +50,7 @@ returns c =
     (readLines (a .bytes .now)) (early-read (a .bytes .now)) (o .open-sheet .result) (begun-sheet (a .bytes .now) (o .open-sheet .result) (o .open-sheet .ensures)) (c .if1 .taken)
 
 capacity-requires : tie.Need-capacity-requires
-capacity-requires c κs = opened (c .before) .accepted .ranged
+capacity-requires c κs = opened (c .before)
 
 look-soft-requires : tie.Need-look-soft-requires
 look-soft-requires c κs = search needs

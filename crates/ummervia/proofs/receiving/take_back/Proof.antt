@@ -52,7 +52,7 @@ returns c =
     (frameLines (a .bytes .now) (a .number .0)) (early-frame (a .bytes .now) (a .number .0)) (o .open-frame .result) (o .open-frame .ensures) (c .if1 .taken)
 
 capacity-requires : tie.Need-capacity-requires
-capacity-requires c κs = opens (c .before) .accepted .ranged
+capacity-requires c κs = opens (c .before)
 
 all-equalised-requires : tie.Need-all-equalised-requires
 all-equalised-requires c κs = opens (c .before .before) .accepted .ranged
