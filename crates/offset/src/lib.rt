@@ -69,12 +69,11 @@ fn quotient(n: u64, r: u64) -> Spacing
     }
 }
 
-// y of x: x|q| less or more the whole part of x gcd/F.
-fn distance(q: Spacing, f: u64, x: u64) -> u64
-    requires { ⌜ (0 < f) × (f ≤ 8) × (x < 8) × (0 < q .size) × (q .size ≤ 16384) ⌝ }
+// y of x: x|q| less or more the whole part of x g/F, g being what q' is more than q, times F.
+fn distance(q: Spacing, f: u64, g: u64, x: u64) -> u64
+    requires { ⌜ (0 < f) × (f ≤ 8) × (x < 8) × (0 < q .size) × (q .size ≤ 16384) × (g ≡ addedOf (q .size) f) ⌝ }
     ensures { λ r. ⌜ (r ≡ yOf (signedBy (q .below) (q .size)) f x) × (r ≤ 131072) ⌝ }
 {
-    let g = added(q.size, f);
     let whole = x * q.size;
     let part = x * g / f;
     if q.below { whole - part } else { whole + part }
@@ -85,10 +84,11 @@ fn offsets(q: Spacing, f: u64) -> [u64; 8]
     requires { ⌜ (0 < f) × (f ≤ 8) × (0 < q .size) × (q .size ≤ 16384) ⌝ }
     ensures { λ r. ⌜ (r ≡ filled (signedBy (q .below) (q .size)) f f) × ((i : ℕ) → getD r i 0 ≤ 131072) ⌝ }
 {
+    let g = added(q.size, f);
     let mut s = [0u64; 8];
     let mut x: u64 = 0;
     while x < f {
-        let y = distance(q, f, x);
+        let y = distance(q, f, g, x);
         let c = (y % f) as usize;
         s[c] = y / f;
         x += 1;

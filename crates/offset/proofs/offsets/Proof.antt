@@ -12,10 +12,13 @@ use Rattle.offset.proofs.offsets.Statement.{statement}
 use Rattle.offset.proofs.offsets.Tie as tie
 
 abbrev Inv-loop : tie.InvT-loop
-Inv-loop q f s₀ x₀ s x = (s ≡ filled (signedBy (q .below) (q .size)) f x) × (x ≤ f) × ((i : ℕ) → getD s i 0 ≤ 131072)
+Inv-loop q f g s₀ x₀ s x = (s ≡ filled (signedBy (q .below) (q .size)) f x) × (x ≤ f) × ((i : ℕ) → getD s i 0 ≤ 131072)
 
 abbrev μ-loop : tie.MeasureT-loop
-μ-loop q f s₀ x₀ s x = f - x
+μ-loop q f g s₀ x₀ s x = f - x
+
+added-requires : tie.Need-added-requires Inv-loop μ-loop
+added-requires c κs = search needs
 
 loop-holds : tie.Need-loop-holds Inv-loop μ-loop
 unfolding filled
@@ -31,10 +34,10 @@ div-s : tie.Need-div-s Inv-loop μ-loop
 div-s c = search needs
 
 mul-s : tie.Need-mul-s Inv-loop μ-loop
-mul-s c = omega (arith, mod-lt (c .distance .result) {m = c .before .before .before .args .f} (omega arith))
+mul-s c = omega (arith, mod-lt (c .distance .result) {m = c .before .before .before .before .args .f} (omega arith))
 
 array-write-s : tie.Need-array-write-s Inv-loop μ-loop
-array-write-s c = omega (arith, mod-lt (c .distance .result) {m = c .before .before .before .args .f} (omega arith))
+array-write-s c = omega (arith, mod-lt (c .distance .result) {m = c .before .before .before .before .args .f} (omega arith))
 
 add-x : tie.Need-add-x Inv-loop μ-loop
 add-x c = omega arith
@@ -46,7 +49,7 @@ loop-again : tie.Need-loop-again Inv-loop μ-loop
 unfolding filled
 loop-again c =
     let y = c .distance .result in
-    let f = c .before .before .before .args .f in
+    let f = c .before .before .before .before .args .f in
     let l = c .before .before .loop in (
       rw (add-one, l .inv .0, c .distance .ensures .0) refl,
       omega arith,
@@ -55,7 +58,7 @@ loop-again c =
 
 returns : tie.Need-returns Inv-loop μ-loop
 returns c =
-    let a = c .before .before .args in
+    let a = c .before .before .before .args in
     let l = c .before .loop in
     let e : l .x ≡ a .f = omega arith in
     (l .inv .0 ∙ ap (filled (signedBy (a .q .below) (a .q .size)) (a .f)) e, l .inv .2)
@@ -66,6 +69,7 @@ offsets-spec =
     (tie.spec
     Inv-loop
     μ-loop
+    added-requires
     loop-holds
     distance-requires
     rem-c
