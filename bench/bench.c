@@ -1,9 +1,9 @@
 /*
- * bench IMPLEMENTATION CALL BITS MODE MATCHING TIMES [INDEX]: makes one call TIMES times, for bench/run to count.
+ * bench IMPLEMENTATION CALL FRAME MODE MATCHING TIMES [INDEX]: makes one call TIMES times, for bench/run to count.
  *
- * IMPLEMENTATION is library or reference; CALL is build, name or channel; BITS (244, 2440, 54000), MODE (0, 1) and
- * MATCHING (puncturing, repetition) choose the sheet. A name is asked for the place with this INDEX in the frame, from
- * 0.
+ * IMPLEMENTATION is library or reference; CALL is build, take, name or channel; FRAME (244, 2440, 54000, 54000x15), MODE
+ * (0, 1) and MATCHING (puncturing, repetition) choose the sheet. A name is asked for the place with this INDEX in the
+ * frame, from 0.
  */
 #include <stdio.h>
 #include <stdlib.h>
@@ -19,33 +19,29 @@ struct channel_row {
 
 /* Every PhCH of a sheet has the same capacity; the channels end at the first RM of 0. */
 struct row {
-    unsigned bits;
+    const char *frame;
     const char *matching;
     struct channel_row channels[9];
     uint16_t phchs[16]; /* of each slot; they end at the first 0 */
     uint16_t capacity;
 };
 
-/* One code of spreading factor 16; ten of them in three slots; a carrier with 15 codes in each of its 15 slots. */
+/* One code of spreading factor 16; ten of them in three slots; a carrier with one code of spreading factor 1 in each of
+   its 15 slots; one with 15 codes in each. */
 static const struct row rows[] = {
-    {244, "puncturing", {{1, 600, 200}}, {1}, 244},
-    {244, "repetition", {{1, 400, 200}}, {1}, 244},
-    {2440, "puncturing", {{0, 1200, 180}, {1, 2400, 200}, {2, 2400, 190}}, {4, 3, 3}, 244},
-    {2440, "repetition", {{0, 800, 180}, {1, 1600, 200}, {2, 1600, 190}}, {4, 3, 3}, 244},
-    {54000,
-     "puncturing",
-     {{0, 14500, 200}, {0, 14500, 204}, {0, 14500, 196}, {0, 14500, 200}, {1, 1600, 200}},
-     {15, 15, 15, 15, 15, 15, 15, 15, 15, 15, 15, 15, 15, 15, 15},
-     240},
-    {54000,
-     "repetition",
-     {{0, 13000, 200}, {0, 13000, 190}, {0, 13000, 210}, {1, 8000, 200}, {2, 8000, 200}},
-     {15, 15, 15, 15, 15, 15, 15, 15, 15, 15, 15, 15, 15, 15, 15},
-     240},
+    {"244", "puncturing", {{1, 600, 200}}, {1}, 244},
+    {"244", "repetition", {{1, 400, 200}}, {1}, 244},
+    {"2440", "puncturing", {{0, 1200, 180}, {1, 2400, 200}, {2, 2400, 190}}, {4, 3, 3}, 244},
+    {"2440", "repetition", {{0, 800, 180}, {1, 1600, 200}, {2, 1600, 190}}, {4, 3, 3}, 244},
+    {"54000", "puncturing", {{0, 14500, 200}, {0, 14500, 204}, {0, 14500, 196}, {0, 14500, 200}, {1, 1600, 200}}, {1, 1, 1, 1, 1, 1, 1, 1, 1, 1, 1, 1, 1, 1, 1}, 3600},
+    {"54000", "repetition", {{0, 13000, 200}, {0, 13000, 190}, {0, 13000, 210}, {1, 8000, 200}, {2, 8000, 200}}, {1, 1, 1, 1, 1, 1, 1, 1, 1, 1, 1, 1, 1, 1, 1}, 3600},
+    {"54000x15", "puncturing", {{0, 14500, 200}, {0, 14500, 204}, {0, 14500, 196}, {0, 14500, 200}, {1, 1600, 200}}, {15, 15, 15, 15, 15, 15, 15, 15, 15, 15, 15, 15, 15, 15, 15}, 240},
+    {"54000x15", "repetition", {{0, 13000, 200}, {0, 13000, 190}, {0, 13000, 210}, {1, 8000, 200}, {2, 8000, 200}}, {15, 15, 15, 15, 15, 15, 15, 15, 15, 15, 15, 15, 15, 15, 15}, 240},
 };
 
 static uint8_t sheet[UMV_SHEET_MOST], contents[MOST], frame[MOST], expected[MOST];
-static size_t sheet_len, contents_len, frame_len;
+static float soft[MOST], taken[MOST], right[MOST];
+static size_t sheet_len, contents_len, frame_len, joined_len;
 
 static void fail(const char *what)
 {
@@ -53,10 +49,10 @@ static void fail(const char *what)
     exit(2);
 }
 
-static const struct row *row_of(const char *bits, const char *matching)
+static const struct row *row_of(const char *name, const char *matching)
 {
     for (size_t i = 0; i < sizeof rows / sizeof *rows; i++)
-        if (rows[i].bits == strtoul(bits, NULL, 10) && strcmp(rows[i].matching, matching) == 0)
+        if (strcmp(rows[i].frame, name) == 0 && strcmp(rows[i].matching, matching) == 0)
             return &rows[i];
     fail("no such row");
     return NULL;
@@ -89,7 +85,7 @@ static void check_sheet(const struct row *row)
 {
     uint64_t channels, slots, sum, capacity, joined, f, e, n, v;
     ref_sizes(sheet, sheet_len, &channels, &slots, &sum, &capacity, &joined);
-    if (capacity != row->bits)
+    if (capacity != strtoul(row->frame, NULL, 10))
         fail("the frame has another size");
     for (uint32_t trch = 1; trch <= channels; trch++) {
         ref_channel(sheet, sheet_len, trch, &f, &e, &n, &v);
@@ -98,6 +94,7 @@ static void check_sheet(const struct row *row)
     }
     contents_len = sum;
     frame_len = capacity;
+    joined_len = joined;
 }
 
 static void make_contents(void)
@@ -122,6 +119,24 @@ static void build(const struct implementation *measured, unsigned long times)
             fail("the build is refused");
     if (memcmp(frame, expected, frame_len) != 0)
         fail("the frame differs from the reference's");
+}
+
+/* Soft values of either sign, none of them whole, taken back into a buffer that held others. */
+static void take(const struct implementation *measured, unsigned long times)
+{
+    uint64_t at;
+    for (size_t i = 0; i < frame_len; i++)
+        soft[i] = (float)(i % 97) * 0.37f - 17.5f;
+    for (size_t i = 0; i < joined_len; i++)
+        taken[i] = right[i] = (float)i;
+    ref_take_back(sheet, sheet_len, FRAME_NUMBER, soft, frame_len, right, joined_len, &at);
+    if (measured->take_back == NULL)
+        fail("the call is not there");
+    for (; times > 0; times--)
+        if (measured->take_back(sheet, sheet_len, FRAME_NUMBER, soft, frame_len, taken, joined_len, &at) != 0)
+            fail("the taking back is refused");
+    if (memcmp(taken, right, joined_len * sizeof *taken) != 0)
+        fail("what came home differs from the reference's");
 }
 
 /* All PhCHs have the same capacity, so that an index tells its PhCH by division. */
@@ -161,6 +176,8 @@ int main(int argc, char **argv)
     make_contents();
     if (strcmp(argv[2], "build") == 0)
         build(measured, times);
+    else if (strcmp(argv[2], "take") == 0)
+        take(measured, times);
     else if (strcmp(argv[2], "name") == 0 && argc == 8)
         name(measured, row, (uint32_t)strtoul(argv[7], NULL, 10), times);
     else if (strcmp(argv[2], "channel") == 0)
