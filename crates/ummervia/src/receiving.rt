@@ -54,9 +54,9 @@ pub fn take_back(bytes: &[u8], number: FrameNumber, frame: &[f32], joined: &mut 
     }
     let opened = answer.opened;
     let fields = opened.fields;
-    let looked = look_soft(frame, capacity(opened), joined.len(), all_equalised(fields));
-    if looked.number != 0 {
-        return looked;
+    let asked = look_soft(frame, capacity(opened), joined.len(), all_equalised(fields));
+    if asked.number != 0 {
+        return asked;
     }
     let count = count_taken(opened);
     receive(frame, opened, number, Asked::All, joined);
