@@ -10,7 +10,7 @@ SHELL := /bin/bash
 VECTORS ?= ../shared/vectors/base.txt
 
 # The repository's own vectors that the library runs; the reference runs all.
-CASES := tests/cases/sheet.txt tests/cases/frame.txt
+CASES := tests/cases/sheet.txt tests/cases/frame.txt tests/cases/home.txt
 
 # rt compiles for x86-64 on every machine: elsewhere such programs are linked by a cross compiler and run by qemu.
 ifeq ($(shell uname -m),x86_64)

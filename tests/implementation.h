@@ -43,6 +43,9 @@ static const struct implementation library = {
     .spread = umv_spread,
     .gather = umv_gather,
     .take_back = umv_take_back,
+    .finish = umv_finish,
+    .heard = umv_heard,
+    .link = umv_link,
     .name_of = umv_name,
     .part = umv_part,
 };

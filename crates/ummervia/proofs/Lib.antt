@@ -6,4 +6,6 @@ pub mod SheetLaws
 pub mod ThereAndBack
 pub mod PartLaws
 pub mod NameLaws
+pub mod FinishLaws
+pub mod ListenLaws
 pub mod Unique

@@ -52,14 +52,14 @@ module _ (s : List ℕ) (frame : ℕ) (a : OpenAnswer) (e : a ≡ openAnswer s) 
 
 -- ---- the lent values
 
-either-left : {a : Bool} (b : Bool) → a ≡ true → a || b ≡ true
+pub either-left : {a : Bool} (b : Bool) → a ≡ true → a || b ≡ true
 either-left b e = ap (λ (x : Bool). x || b) e
 
-either-right : (a : Bool) {b : Bool} → b ≡ true → a || b ≡ true
+pub either-right : (a : Bool) {b : Bool} → b ≡ true → a || b ≡ true
 either-right true e = refl
 either-right false e = e
 
-both-clear : {a b : Bool} → a ≡ false → b ≡ false → a || b ≡ false
+pub both-clear : {a b : Bool} → a ≡ false → b ≡ false → a || b ≡ false
 both-clear p q = rw (p, q) refl
 
 module _ {A : Type 0} (test : A → Bool) (vs : List A) (needed n room : ℕ) where
@@ -98,7 +98,7 @@ cond-below : (b : Bool) (n r : ℕ) → n < 12 → r < 12 → cond b n r < 12
 cond-below true n r p q = p
 cond-below false n r p q = q
 
-early-below : {ls : List Line} → Early ls → firstOf ls < 12
+pub early-below : {ls : List Line} → Early ls → firstOf ls < 12
 early-below no-line = omega arith
 early-below (and-line {l} {ls} a b e) = cond-below (l .holds) (l .number) (firstOf ls) b (early-below e)
 
@@ -108,7 +108,7 @@ early-read s =
     and-line (lit< tt) (lit< tt) (and-line (lit< tt) (lit< tt) (and-line (lit< tt) (lit< tt) (and-line (lit< tt) (lit< tt) no-line))) in
     and-line (lit< tt) (lit< tt) (and-line (lit< tt) (lit< tt) (and-line (lit< tt) (lit< tt) (and-line (lit< tt) (lit< tt) loads)))
 
-early-more : {xs : List Line} (b : Bool) (n : ℕ) → Early xs → 0 < n → n < 12 → Early (xs ++ line b n ∷ [])
+pub early-more : {xs : List Line} (b : Bool) (n : ℕ) → Early xs → 0 < n → n < 12 → Early (xs ++ line b n ∷ [])
 early-more b n no-line p q = and-line p q no-line
 early-more b n (and-line x y e) p q = and-line x y (early-more b n e p q)
 

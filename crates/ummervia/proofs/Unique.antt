@@ -13,12 +13,15 @@ use Rattle.ummervia.specs.Outcome.{Outcome}
 use Rattle.ummervia.specs.Sheets.{readInto, writeInto, lengthFrom, writeFrom}
 use Rattle.ummervia.specs.Asking.{sizesAnswer, channelAnswer}
 use Rattle.ummervia.specs.Building.{buildInto, multiplexInto, spreadInto}
-use Rattle.ummervia.specs.Receiving.{gatherInto, takeInto}
 use Rattle.ummervia.specs.Naming.{Naming, nameAnswer}
 use Rattle.ummervia.specs.Part.{partAnswer, partOf}
+use Rattle.ummervia.specs.Receiving.{gatherInto, takeInto, finishInto}
+use Rattle.ummervia.specs.Listening.{heardAnswer, Numbers, heardNumbers, linkAnswer}
 use Rattle.ummervia.specs.declared.SizesAnswer.{SizesAnswer}
 use Rattle.ummervia.specs.declared.ChannelAnswer.{ChannelAnswer}
 use Rattle.ummervia.specs.declared.PartAnswer.{PartAnswer}
+use Rattle.ummervia.specs.declared.HeardAnswer.{HeardAnswer}
+use Rattle.ummervia.specs.declared.LinkAnswer.{LinkAnswer}
 
 only : {A : Type 0} {x y : A} (z : A) → x ≡ z → y ≡ z → x ≡ y
 only z p q = p ∙ sym q
@@ -69,8 +72,19 @@ pub take-back : (bytes : List ℕ) (number : ℕ) (frame old : List Float) (x y 
     → x ≡ takeInto bytes number frame old → y ≡ takeInto bytes number frame old → x ≡ y
 take-back bytes number frame old x y = only (takeInto bytes number frame old)
 
--- the calls in C; umv_sizes, umv_channel, umv_build, umv_multiplex, umv_spread, umv_name, umv_part, umv_gather and umv_take_back leave what the
--- calls in Rattle do
+pub finish : (bytes : List ℕ) (trch : ℕ) (joined old : List Float) (x y : Outcome Float)
+    → x ≡ finishInto bytes trch joined old → y ≡ finishInto bytes trch joined old → x ≡ y
+finish bytes trch joined old x y = only (finishInto bytes trch joined old)
+
+pub heard : (bytes : List ℕ) (number : ℕ) (frame : List Float) (trch bit : ℕ) (x y : HeardAnswer)
+    → x ≡ heardAnswer bytes number frame trch bit → y ≡ heardAnswer bytes number frame trch bit → x ≡ y
+heard bytes number frame trch bit x y = only (heardAnswer bytes number frame trch bit)
+
+pub link : (bytes : List ℕ) (number : ℕ) (frame : List Float) (trch : ℕ) (x y : LinkAnswer)
+    → x ≡ linkAnswer bytes number frame trch → y ≡ linkAnswer bytes number frame trch → x ≡ y
+link bytes number frame trch x y = only (linkAnswer bytes number frame trch)
+
+-- the calls in C; those that are not named here leave what the calls in Rattle do
 pub umv-sheet-read : (bytes old : List ℕ) (x y : Outcome ℕ) → x ≡ readInto bytes old → y ≡ readInto bytes old → x ≡ y
 umv-sheet-read bytes old x y = only (readInto bytes old)
 
@@ -79,3 +93,7 @@ umv-sheet-length fields x y = only (lengthFrom fields)
 
 pub umv-sheet-write : (fields old : List ℕ) (x y : Outcome ℕ) → x ≡ writeFrom fields old → y ≡ writeFrom fields old → x ≡ y
 umv-sheet-write fields old x y = only (writeFrom fields old)
+
+pub umv-heard : (bytes : List ℕ) (number : ℕ) (frame : List Float) (trch bit : ℕ) (x y : Numbers)
+    → x ≡ heardNumbers (heardAnswer bytes number frame trch bit) → y ≡ heardNumbers (heardAnswer bytes number frame trch bit) → x ≡ y
+umv-heard bytes number frame trch bit x y = only (heardNumbers (heardAnswer bytes number frame trch bit))

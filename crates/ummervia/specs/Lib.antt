@@ -8,3 +8,4 @@ pub mod Part
 pub mod Naming
 pub mod Receiving
 pub mod Listening
+pub mod Listened
