@@ -20,12 +20,11 @@ use Rattle.joining.specs.Range.{inRange, firstOut}
 use Rattle.joining.specs.declared.Heard.{Heard}
 use Rattle.joining.specs.declared.linking.Link.{Link}
 use Rattle.homing.specs.Gather.{gathered}
-use Rattle.homing.specs.Home.{heardIn, heardAt, linkIn}
-use Rattle.homing.specs.Taking.{hearIn, surveyIn}
 use Rattle.homing.specs.Receiving.{Askable, receptionOf}
 use Rattle.homing.specs.declared.receiving.Asked.{Asked}
 use Rattle.homing.specs.declared.receiving.Asked.the-variants.{Bit, Channel}
 use Rattle.homing.specs.declared.receiving.Reception.{Reception}
+use Rattle.homing.proofs.ReceiveLaws.{heard-at, link-in}
 use Rattle.ummervia.specs.Looking.{frameLines, lookLines, indexed, lookAnswer, Begun}
 use Rattle.ummervia.specs.Asking.{noTrch}
 use Rattle.ummervia.specs.Listening.{noBit, heardAnswer, numbers, heardNumbers, linkAnswer}
@@ -158,14 +157,6 @@ module _ (one : Bool) (s : List ℕ) (number : ℕ) (frame : List Float) (k b : 
 
 -- ---- what is heard
 
-hear-frame : (sh : Sheet) (number i m : ℕ) (frame : List Float) → hearIn sh number i m (heardIn sh i frame) ≡ heardAt sh number i m frame
-unfolding hearIn heardAt
-hear-frame sh number i m frame = refl
-
-survey-frame : (sh : Sheet) (number i : ℕ) (frame : List Float) → surveyIn sh number i (heardIn sh i frame) ≡ linkIn sh number i frame
-unfolding surveyIn linkIn
-survey-frame sh number i frame = refl
-
 -- a part of what is given
 given-part : {A B : Type 0} (f : A → B) (n : ℕ) (x y : A) → f (given n x y) ≡ given n (f x) (f y)
 given-part f n x y = side (eqb n 0)
@@ -177,23 +168,23 @@ given-part f n x y = side (eqb n 0)
 module _ (s : List ℕ) (number : ℕ) (frame : List Float) (k : ℕ) (l : Listened) where
   pub heard-of : (b : ℕ) → l ≡ listenedOf true s number frame k b
       → _≡_ {A = HeardAnswer} (record { number = l .number; at = l .at; heard = l .reception .heard }) (heardAnswer s number frame k b)
-  unfolding receptionOf heardIn
+  unfolding receptionOf
   heard-of b e =
       let n = firstOf (listenLines true s number frame k b) in
       ap (λ (x : Listened). record { number = x .number; at = x .at; heard = x .reception .heard }) e
       ∙ ap (λ (x : Heard). record { number = n; at = indexed n (firstOut frame); heard = x })
       (given-part (λ (x : Reception). x .heard) n _ unheard
-      ∙ ap (λ (x : Heard). given n x (unheard .heard)) (hear-frame (sheetOf s) number (k - 1) (b - 1) frame))
+      ∙ ap (λ (x : Heard). given n x (unheard .heard)) (heard-at (sheetOf s) number frame (k - 1) (b - 1)))
 
   pub link-of : (b : ℕ) → l ≡ listenedOf false s number frame k b
       → _≡_ {A = LinkAnswer} (record { number = l .number; at = l .at; link = l .reception .link }) (linkAnswer s number frame k)
-  unfolding receptionOf heardIn
+  unfolding receptionOf
   link-of b e =
       let n = firstOf (listenLines false s number frame k b) in
       ap (λ (x : Listened). record { number = x .number; at = x .at; link = x .reception .link }) e
       ∙ ap (λ (x : Link). record { number = n; at = indexed n (firstOut frame); link = x })
       (given-part (λ (x : Reception). x .link) n _ unheard
-      ∙ ap (λ (x : Link). given n x (unheard .link)) (survey-frame (sheetOf s) number (k - 1) frame))
+      ∙ ap (λ (x : Link). given n x (unheard .link)) (link-in (sheetOf s) number frame (k - 1)))
 
 -- its value and its copies, by its case
 pub numbers-of : (s : List ℕ) (number : ℕ) (frame : List Float) (k b : ℕ) (r : HeardAnswer) → r ≡ heardAnswer s number frame k b
