@@ -45,8 +45,9 @@ test: setup
 	@$(MAKE) --no-print-directory ctest
 	@tail -n 1 target/ci.log | grep -Ex '[0-9]+ passed, 0 failed'
 
-ctest: target/c/calls target/c/vectors target/c/random target/c/sizes $(LISTER)
+ctest: target/c/calls target/c/values target/c/vectors target/c/random target/c/sizes $(LISTER)
 	$(RUN) target/c/calls
+	$(RUN) target/c/values
 	@run() { if [ -f "$$2" ]; then echo "$(RUN) target/c/vectors $$*"; $(RUN) target/c/vectors "$$@"; \
 	else echo "vectors: $$2 is not there: skipped"; fi; }; \
 	for file in tests/cases/*.txt '$(VECTORS)'; do run reference "$$file"; done; \

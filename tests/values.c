@@ -1,0 +1,102 @@
+/* values: what document 01 prints of frames, asked of the calls: the example, one bit sent 60,000 times, frame 255 and 256. */
+#include <stdbool.h>
+#include <stdio.h>
+#include <string.h>
+
+#include "ummervia.h"
+
+enum { MOST = 60000 };
+
+static unsigned long checks, failures;
+
+#define CHECK(condition) check((condition), #condition, __LINE__)
+
+static void check(bool holds, const char *condition, int line)
+{
+    checks++;
+    if (!holds) {
+        failures++;
+        printf("tests/values.c:%d: not so: %s\n", line, condition);
+    }
+}
+
+static const uint8_t example[] = {0x10, 0x10, 0x00, 0x06, 0x00, 0x00, 0x04};
+
+/* "With contents 1,0,1,1,0,0 that sheet's frame is 0,0,1,0: bits 2, 6, 3, 5." */
+static void test_example(void)
+{
+    static const uint8_t contents[] = {1, 0, 1, 1, 0, 0}, expected[] = {0, 0, 1, 0};
+    static const uint64_t bits[] = {2, 6, 3, 5};
+    uint8_t frame[4] = {9, 9, 9, 9};
+    uint64_t at, trch, bit, copy;
+    CHECK(umv_build(example, sizeof example, 0, contents, 6, frame, 4, &at) == UMV_OK && at == 4);
+    CHECK(memcmp(frame, expected, 4) == 0);
+    for (uint32_t place = 1; place <= 4; place++) {
+        CHECK(umv_name(example, sizeof example, 0, 1, 1, place, &trch, &bit, &copy) == UMV_OK);
+        CHECK(trch == 1 && bit == bits[place - 1] && copy == 0);
+    }
+}
+
+/* "Frame number 255 accepted, 256 gives 9." */
+static void test_frame_numbers(void)
+{
+    static const uint8_t contents[6] = {0};
+    uint8_t frame[4] = {9, 9, 9, 9};
+    uint64_t at, trch, bit, copy;
+    CHECK(umv_build(example, sizeof example, 256, contents, 6, frame, 4, &at) == UMV_FRAME_NUMBER && at == 0);
+    CHECK(frame[0] == 9 && frame[3] == 9);
+    CHECK(umv_build(example, sizeof example, 255, contents, 6, frame, 4, &at) == UMV_OK && at == 4);
+    CHECK(umv_name(example, sizeof example, 255, 1, 1, 1, &trch, &bit, &copy) == UMV_OK);
+    CHECK(umv_name(example, sizeof example, 256, 1, 1, 1, &trch, &bit, &copy) == UMV_FRAME_NUMBER);
+    CHECK(trch == 0 && bit == 0 && copy == 0);
+}
+
+/* One channel of one bit, 15 slots of 16 PhCHs of 250: 60,000 places. */
+static size_t make_repeated(uint8_t *sheet)
+{
+    uint16_t fields[UMV_FIELDS] = {[UMV_FIELD_VERSION] = 1, [UMV_FIELD_CHANNELS] = 1, [UMV_FIELD_SLOTS] = 15};
+    uint64_t length = 0, at;
+    fields[UMV_FIELD_E] = 1;
+    fields[UMV_FIELD_RM] = 1;
+    for (unsigned t = 0; t < 15; t++)
+        fields[UMV_FIELD_PHCHS + t] = 16;
+    for (unsigned u = 0; u < 240; u++)
+        fields[UMV_FIELD_CAPACITIES + u] = 250;
+    CHECK(umv_sheet_length(fields, UMV_FIELDS, &length) == UMV_OK);
+    CHECK(umv_sheet_write(fields, UMV_FIELDS, sheet, length, &at) == UMV_OK);
+    return length;
+}
+
+/* "N=1, d=59,999: the one bit is sent 60,000 times"; of whole values of 255 the sum is exact. */
+static void test_repeated(void)
+{
+    static uint8_t sheet[UMV_SHEET_MOST], frame[MOST], named[MOST];
+    static float soft[MOST];
+    const uint8_t contents[] = {1};
+    size_t length = make_repeated(sheet), ones = 0;
+    uint64_t at, trch, bit, copy, copies, punctured;
+    float value, joined, least, greatest;
+    CHECK(umv_build(sheet, length, 255, contents, 1, frame, MOST, &at) == UMV_OK && at == MOST);
+    for (size_t i = 0; i < MOST; i++)
+        ones += frame[i];
+    CHECK(ones == MOST);
+    for (uint32_t i = 0; i < MOST; i++) {
+        CHECK(umv_name(sheet, length, 255, i / 4000 + 1, i / 250 % 16 + 1, i % 250 + 1, &trch, &bit, &copy) == UMV_OK);
+        CHECK(trch == 1 && bit == 1 && copy < MOST && named[copy]++ == 0);
+        soft[i] = 255.0f;
+    }
+    CHECK(umv_heard(sheet, length, 255, soft, MOST, 1, 1, &at, &value, &copies) == UMV_OK);
+    CHECK(value == 15300000.0f && copies == MOST);
+    CHECK(umv_take_back(sheet, length, 255, soft, MOST, &joined, 1, &at) == UMV_OK && at == 1 && joined == value);
+    CHECK(umv_link(sheet, length, 255, soft, MOST, 1, &at, &least, &greatest, &punctured) == UMV_OK);
+    CHECK(least == value && greatest == value && punctured == 0);
+}
+
+int main(void)
+{
+    test_example();
+    test_frame_numbers();
+    test_repeated();
+    printf("values: %lu checks, %lu failed\n", checks, failures);
+    return failures != 0;
+}
