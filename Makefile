@@ -45,7 +45,7 @@ test: setup
 	@$(MAKE) --no-print-directory ctest
 	@tail -n 1 target/ci.log | grep -Ex '[0-9]+ passed, 0 failed'
 
-ctest: target/c/calls target/c/values target/c/vectors target/c/random target/c/sizes $(LISTER)
+ctest: target/c/calls target/c/values target/c/vectors target/c/random target/c/home target/c/sizes $(LISTER)
 	$(RUN) target/c/calls
 	$(RUN) target/c/values
 	@run() { if [ -f "$$2" ]; then echo "$(RUN) target/c/vectors $$*"; $(RUN) target/c/vectors "$$@"; \
@@ -53,6 +53,7 @@ ctest: target/c/calls target/c/values target/c/vectors target/c/random target/c/
 	for file in tests/cases/*.txt '$(VECTORS)'; do run reference "$$file"; done; \
 	for file in $(CASES) '$(VECTORS)'; do run library "$$file"; done
 	$(RUN) target/c/random
+	$(RUN) target/c/home
 	tests/lister.sh $(RUN) $(LISTER)
 	$(RUN) target/c/sizes examples/example.sheet
 

@@ -1,0 +1,303 @@
+/*
+ * home [SEED [SHEETS]]: there and back over whole TTIs, through the library alone. On random sheets it builds eight frames
+ * that follow one another, sends each bit as +1 for 0 and -1 for 1, takes every frame back into one buffer and finishes
+ * every channel. Each value must be plus or minus the number of places that umv_name gives to its bit, and +0.0 where there
+ * is none. What was heard of some bits and each link record must say the same. The same seed makes the same sheets.
+ */
+#include <stdbool.h>
+#include <stdio.h>
+#include <stdlib.h>
+#include <string.h>
+
+#include "ummervia.h"
+
+enum {
+    SHEETS = 300,      /* made unless asked otherwise */
+    FRAMES = 8,        /* of the longest TTI */
+    CHANNELS = 8,      /* at most */
+    MOST_E = 240,      /* encoded bits of a channel */
+    MOST_T = MOST_E,   /* 8 divides it: fillers never pass it */
+    MOST_PLACES = 300, /* of a frame */
+    ASKED = 4,         /* bits asked for in each segment */
+    MOST_SHOWN = 20    /* differences printed */
+};
+
+static unsigned long sheets_made, values, punctured, once, joined_values, heard, links, differing;
+
+#define CHECK(condition) check((condition), #condition, __LINE__)
+
+static bool check(bool holds, const char *condition, int line)
+{
+    if (!holds && differing++ < MOST_SHOWN)
+        printf("home.c:%d: sheet %lu: not so: %s\n", line, sheets_made, condition);
+    return holds;
+}
+
+/* ---- Chance: xorshift64* ---- */
+
+static uint64_t state = 0x2522200480706050;
+
+static uint32_t between(uint32_t low, uint32_t high)
+{
+    state ^= state >> 12;
+    state ^= state << 25;
+    state ^= state >> 27;
+    return low + (uint32_t)((state * 0x2545f4914f6cdd1du >> 32) % ((uint64_t)high - low + 1));
+}
+
+static bool one_in(uint32_t count)
+{
+    return between(1, count) == 1;
+}
+
+/* ---- The sheet at work ---- */
+
+static uint16_t fields[UMV_FIELDS];
+static uint8_t sheet[UMV_SHEET_MOST];
+static size_t sheet_len;
+
+static struct {
+    uint64_t channels, slots, contents, capacity, joined;
+} sizes;
+
+static struct channel {
+    uint64_t f, e, n, v;
+    size_t in_contents, in_joined; /* where it begins */
+} channels[CHANNELS];
+
+static unsigned long met_mode[2], met_tti[4], met_channels[CHANNELS], met_empty;
+
+static void random_channels(void)
+{
+    uint32_t count = between(1, CHANNELS), most_e = one_in(3) ? MOST_E : one_in(2) ? 60 : 12, most_rm = one_in(2) ? 256 : 8;
+    fields[UMV_FIELD_CHANNELS] = (uint16_t)count;
+    for (uint32_t i = 0; i < count; i++) {
+        fields[UMV_FIELD_TTI + i] = (uint16_t)between(0, 3);
+        fields[UMV_FIELD_E + i] = (uint16_t)(one_in(4) ? 0 : between(1, most_e));
+        fields[UMV_FIELD_RM + i] = (uint16_t)between(1, most_rm);
+    }
+    fields[UMV_FIELD_E + between(0, count - 1)] = (uint16_t)between(1, most_e); /* one at least has bits */
+}
+
+/* No more than MOST_PLACES in sum. */
+static void random_slots(void)
+{
+    static const uint16_t most[][3] = {{15, 4, 5}, {3, 2, 50}, {1, 16, 18}, {2, 1, 150}, {1, 1, 300}}; /* T, P, U */
+    const uint16_t *shape = most[between(0, 4)];
+    fields[UMV_FIELD_SLOTS] = (uint16_t)between(1, shape[0]);
+    for (uint32_t t = 0; t < fields[UMV_FIELD_SLOTS]; t++) {
+        fields[UMV_FIELD_PHCHS + t] = (uint16_t)between(1, shape[1]);
+        for (uint32_t p = 0; p < fields[UMV_FIELD_PHCHS + t]; p++)
+            fields[UMV_FIELD_CAPACITIES + 16 * t + p] = (uint16_t)between(1, shape[2]);
+    }
+}
+
+/* Whether the library's numbers are such that the buffers here hold what it will write. */
+static bool read_channels(void)
+{
+    size_t in_contents = 0, in_joined = 0;
+    for (uint32_t i = 0; i < sizes.channels; i++) {
+        struct channel *c = &channels[i];
+        if (!CHECK(umv_channel(sheet, sheet_len, i + 1, &c->f, &c->e, &c->n, &c->v) == UMV_OK) ||
+            !CHECK(c->f == 1u << fields[UMV_FIELD_TTI + i] && c->e == fields[UMV_FIELD_E + i] && c->f * c->n <= MOST_T))
+            return false;
+        c->in_contents = in_contents;
+        c->in_joined = in_joined;
+        in_contents += c->e;
+        in_joined += c->f * c->n;
+        met_tti[fields[UMV_FIELD_TTI + i]]++;
+        met_empty += c->e == 0;
+    }
+    met_mode[fields[UMV_FIELD_MODE]]++;
+    met_channels[sizes.channels - 1]++;
+    return CHECK(in_contents == sizes.contents && in_joined == sizes.joined);
+}
+
+/* Whether the library takes it. */
+static bool random_sheet(void)
+{
+    uint64_t length;
+    memset(fields, 0, sizeof fields);
+    fields[UMV_FIELD_VERSION] = 1;
+    fields[UMV_FIELD_MODE] = (uint16_t)between(0, 1);
+    random_channels();
+    random_slots();
+    if (!CHECK(umv_sheet_length(fields, UMV_FIELDS, &length) == UMV_OK && length <= UMV_SHEET_MOST))
+        return false;
+    sheet_len = length;
+    return CHECK(umv_sheet_write(fields, UMV_FIELDS, sheet, sheet_len, &length) == UMV_OK) &&
+           CHECK(umv_sizes(sheet, sheet_len, &sizes.channels, &sizes.slots, &sizes.contents, &sizes.capacity,
+                           &sizes.joined) == UMV_OK) &&
+           CHECK(sizes.channels == fields[UMV_FIELD_CHANNELS] && sizes.slots == fields[UMV_FIELD_SLOTS] &&
+                 sizes.capacity <= MOST_PLACES);
+}
+
+/* ---- There ---- */
+
+static uint8_t contents[CHANNELS * MOST_E], frame[MOST_PLACES];
+static float soft[MOST_PLACES], joined[CHANNELS * MOST_T];
+static uint32_t named[FRAMES][CHANNELS][MOST_T]; /* places of a frame that name a bit */
+
+static void count_names(uint32_t frame_number)
+{
+    uint64_t trch, bit, copy;
+    for (uint32_t t = 1; t <= sizes.slots; t++)
+        for (uint32_t p = 1; p <= fields[UMV_FIELD_PHCHS + t - 1]; p++)
+            for (uint32_t u = 1; u <= fields[UMV_FIELD_CAPACITIES + 16 * (t - 1) + p - 1]; u++)
+                if (CHECK(umv_name(sheet, sheet_len, frame_number, t, p, u, &trch, &bit, &copy) == UMV_OK) &&
+                    CHECK(trch >= 1 && trch <= sizes.channels) &&
+                    CHECK(bit >= 1 && bit <= channels[trch - 1].f * channels[trch - 1].n))
+                    named[frame_number % FRAMES][trch - 1][bit - 1]++;
+}
+
+static void send(uint32_t frame_number)
+{
+    uint64_t at;
+    CHECK(umv_build(sheet, sheet_len, frame_number, contents, sizes.contents, frame, sizes.capacity, &at) == UMV_OK);
+    CHECK(at == sizes.capacity);
+    for (size_t i = 0; i < sizes.capacity; i++)
+        soft[i] = frame[i] == 0 ? 1.0f : -1.0f;
+}
+
+/* ---- And back ---- */
+
+static bool same(float a, float b)
+{
+    return memcmp(&a, &b, sizeof a) == 0;
+}
+
+/* What comes home of a bit, from 0 and before first interleaving, that `copies` places held. */
+static float home_of(const struct channel *c, uint64_t bit, uint32_t copies)
+{
+    bool one = bit < c->e && contents[c->in_contents + bit] == 1; /* a filler is 0 */
+    return one && copies != 0 ? -(float)copies : (float)copies;
+}
+
+/* The column, before first interleaving, of the segment of frame n. */
+static uint32_t column_of(const struct channel *c, uint32_t n)
+{
+    static const uint8_t orders[4][8] = {{0}, {0, 1}, {0, 2, 1, 3}, {0, 4, 2, 6, 1, 5, 3, 7}};
+    return orders[fields[UMV_FIELD_TTI + (c - channels)]][n % c->f];
+}
+
+static void ask_bits(uint32_t frame_number, uint32_t i)
+{
+    const struct channel *c = &channels[i];
+    for (int k = 0; k < ASKED && c->n != 0; k++) {
+        uint32_t bit = between(1, (uint32_t)c->n);
+        uint64_t at = 1, copies, before = (bit - 1) * c->f + column_of(c, frame_number);
+        uint32_t places = named[frame_number % FRAMES][i][before];
+        float value;
+        CHECK(umv_heard(sheet, sheet_len, frame_number, soft, sizes.capacity, i + 1, bit, &at, &value, &copies) == UMV_OK);
+        CHECK(at == 0 && copies == places);
+        CHECK(same(value, home_of(c, before, places)));
+        CHECK(same(value, joined[c->in_joined + frame_number % c->f * c->n + bit - 1]));
+        heard++;
+    }
+}
+
+static void ask_link(uint32_t frame_number, uint32_t i)
+{
+    const struct channel *c = &channels[i];
+    uint32_t few = 0, many = 0;
+    uint64_t none = 0, at = 1, missing;
+    float least, greatest;
+    for (uint64_t bit = column_of(c, frame_number); bit < c->f * c->n; bit += c->f) {
+        uint32_t places = named[frame_number % FRAMES][i][bit];
+        none += places == 0;
+        few = places != 0 && (few == 0 || places < few) ? places : few;
+        many = places > many ? places : many;
+    }
+    CHECK(umv_link(sheet, sheet_len, frame_number, soft, sizes.capacity, i + 1, &at, &least, &greatest, &missing) == UMV_OK);
+    CHECK(at == 0 && missing == none);
+    CHECK(same(least, (float)few) && same(greatest, (float)many));
+    links++;
+}
+
+static void take_back(uint32_t frame_number)
+{
+    uint64_t at, segments = 0;
+    for (uint32_t i = 0; i < sizes.channels; i++)
+        segments += channels[i].n;
+    CHECK(umv_take_back(sheet, sheet_len, frame_number, soft, sizes.capacity, joined, sizes.joined, &at) == UMV_OK);
+    CHECK(at == segments);
+    for (uint32_t i = 0; i < sizes.channels; i++) {
+        ask_bits(frame_number, i);
+        ask_link(frame_number, i);
+    }
+}
+
+/* How many places held a bit in each of the frames that its segment went in; no other frame held it. */
+static uint32_t copies_of(uint32_t i, uint64_t bit)
+{
+    const struct channel *c = &channels[i];
+    uint32_t n = 0;
+    while (column_of(c, n) != bit % c->f)
+        n++;
+    for (uint32_t k = 0; k < FRAMES; k++)
+        CHECK(named[k][i][bit] == (k % c->f == n ? named[n][i][bit] : 0));
+    return named[n][i][bit];
+}
+
+static void finish(uint32_t i)
+{
+    const struct channel *c = &channels[i];
+    float coded[MOST_E];
+    uint64_t at;
+    for (size_t bit = 0; bit < MOST_E; bit++)
+        coded[bit] = 0.25f;
+    CHECK(umv_finish(sheet, sheet_len, i + 1, joined, sizes.joined, coded, c->e, &at) == UMV_OK);
+    CHECK(at == c->e);
+    for (uint64_t bit = 0; bit < c->e; bit++) {
+        uint32_t copies = copies_of(i, bit);
+        CHECK(same(coded[bit], home_of(c, bit, copies)));
+        values++;
+        punctured += copies == 0;
+        once += copies == 1;
+        joined_values += copies > 1;
+    }
+}
+
+static void there_and_back(void)
+{
+    uint32_t first = FRAMES * between(0, 255 / FRAMES);
+    memset(named, 0, sizeof named);
+    for (size_t i = 0; i < sizes.contents; i++)
+        contents[i] = (uint8_t)between(0, 1);
+    for (size_t i = 0; i < sizes.joined; i++)
+        joined[i] = (float)between(0, 999) + 0.5f; /* no number of copies */
+    for (uint32_t frame_number = first; frame_number < first + FRAMES; frame_number++) {
+        count_names(frame_number);
+        send(frame_number);
+        take_back(frame_number);
+    }
+    for (uint32_t i = 0; i < sizes.channels; i++)
+        finish(i);
+}
+
+/* How many kinds of sheet or of bit were never met. */
+static unsigned not_met(void)
+{
+    unsigned missing = (met_empty == 0) + (punctured == 0) + (once == 0) + (joined_values == 0);
+    for (int i = 0; i < 2; i++)
+        missing += met_mode[i] == 0;
+    for (int i = 0; i < 4; i++)
+        missing += met_tti[i] == 0;
+    for (int i = 0; i < CHANNELS; i++)
+        missing += met_channels[i] == 0;
+    return missing;
+}
+
+int main(int argc, char **argv)
+{
+    const unsigned long sheets = argc > 2 ? strtoul(argv[2], NULL, 0) : SHEETS;
+    state = argc > 1 ? strtoull(argv[1], NULL, 0) | 1 : state; /* never 0 */
+    printf("home: seed %#llx, %lu sheets\n", (unsigned long long)state, sheets);
+    while (sheets_made++ < sheets)
+        if (random_sheet() && read_channels())
+            there_and_back();
+    printf("home: %lu values checked: %lu punctured, %lu sent once, %lu joined; %lu bits asked for, %lu link records\n",
+           values, punctured, once, joined_values, heard, links);
+    printf("home: %lu differ, %u kinds not met\n", differing, not_met());
+    return differing != 0 || not_met() != 0;
+}
