@@ -1,8 +1,8 @@
-# make run: a first look. make test: everything, as the gate runs it. make ctest: the edit loop. make bench. make clean.
+# make run: a first look. make test: everything, as the gate runs it. make ctest: the edit loop. make bench. make stack. make clean.
 
 SHELL := /bin/bash
 .SHELLFLAGS := -eu -o pipefail -c
-.PHONY: help run test ctest bench setup clean
+.PHONY: help run test ctest bench stack setup clean
 .DEFAULT_GOAL := help
 .NOTPARALLEL: # rt works with all processors by itself, and rt ci removes target/
 
@@ -63,6 +63,10 @@ bench: setup target/c/bench
 	@{ command -v qemu-x86_64 && command -v gcc; } > /dev/null || { apt-get update && \
 	apt-get install -y --no-upgrade --no-install-recommends qemu-user gcc libc6-dev; }
 	@bench/run target/c/bench
+
+# Bytes of stack that each call needs, measured: the same table wherever the same archive runs.
+stack: setup target/c/stack
+	@bench/stack $(RUN) target/c/stack
 
 # Installs only what is missing: asked by linking a program and running it.
 setup:
