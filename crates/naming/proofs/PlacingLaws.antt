@@ -1,14 +1,17 @@
 -- Laws of steps 9 and 8 as the code goes back through them.
-use mathlib.Core.Path.{_≡_, sym, ap, ap₂, _∙_}
+use mathlib.Core.Path.{_≡_, refl, sym, ap, ap₂, _∙_}
 use mathlib.Core.Bool.{Bool, cond}
 use mathlib.Core.List.{List}
 use Prim.Native.Nat.{ℕ, _+_, _*_, _-_, _≤_, _<_}
 use native.Mathlib.Omega.{arith}
 use borrow.Author.Tests.{eq-eqb, ne-eqb}
-use lib.ListN.{length, take, drop}
-use Rattle.sheet.specs.Counts.{mostCodes, mostBits}
+use lib.ListN.{length, getD, take, drop}
+use Rattle.laws.specs.Sums.{sumTo}
+use Rattle.laws.proofs.SumLaws.{sum-more}
+use Rattle.sheet.specs.Counts.{mostSlots, mostCodes, mostCapacities, mostBits}
 use Rattle.sheet.specs.Fields.{phchsOf, capacityOf}
 use Rattle.sheet.specs.Sizes.{slotCapacity, capacityAll}
+use Rattle.sheet.specs.Numbers.{slotLoad, wholeLoad}
 use Rattle.sheet.specs.Range.{Accepted}
 use Rattle.sheet.specs.declared.Sheet.{Sheet}
 use Rattle.interleaving.specs.Second.{sourceOf}
@@ -20,13 +23,19 @@ use Rattle.naming.specs.Name.{slotBitAt, readFrom}
 use Rattle.naming.proofs.Slots.{bit-by-caps}
 
 -- step 9: the part of the capacities that is lent
-module _ (sh : Sheet) (ok : Accepted sh) (t : ℕ) (l : t < sh .slots) {n : ℕ} (e : n ≡ phchsOf sh t) where
+module _ (sh : Sheet) (ok : Accepted sh) (t : ℕ) (l : t < sh .slots) {phchs caps : List ℕ} (ep : phchs ≡ sh .phchs) (ec : caps ≡ sh .caps) {n : ℕ}
+    (e : n ≡ getD phchs t 0) where
   abbrev lent : List ℕ
-  lent = take (mostCodes * t + n - mostCodes * t) (drop (mostCodes * t) (sh .caps))
+  lent = take (mostCodes * t + n - mostCodes * t) (drop (mostCodes * t) caps)
+
+  pub lent-count : n ≡ phchsOf sh t
+  lent-count = e ∙ ap (λ (p : List ℕ). getD p t 0) ep
 
   lent-caps : lent ≡ capsOf sh t
   unfolding capsOf
-  lent-caps = let q : mostCodes * t + n - mostCodes * t ≡ phchsOf sh t = omega arith in ap (λ (k : ℕ). take k (drop (mostCodes * t) (sh .caps))) q
+  lent-caps =
+      let q : mostCodes * t + n - mostCodes * t ≡ phchsOf sh t = omega (arith, lent-count) in
+      ap₂ (λ (k : ℕ) (c : List ℕ). take k (drop (mostCodes * t) c)) q ec
 
   module _ (p place : ℕ) (h : p < phchsOf sh t) where
     pub lent-asks : 0 < place → place ≤ capacityOf sh t p → (p < length lent) × (length lent ≤ 16) × (0 < place) × (place ≤ at lent p)
@@ -44,6 +53,32 @@ module _ (sh : Sheet) (ok : Accepted sh) (t : ℕ) (l : t < sh .slots) {n : ℕ}
 -- a slot lies within the frame
 pub slot-most : (sh : Sheet) → Accepted sh → (t : ℕ) → t < sh .slots → slotStart sh t + slotCapacity sh t ≤ mostBits
 slot-most sh ok t l = omega (arith, slot-room sh t l, capacity-most sh ok)
+
+-- one capacity is its sum
+pub one-size : (caps : List ℕ) (from : ℕ) {n r : ℕ} → n ≡ 1 → r ≡ getD caps from 0 → r ≡ slotLoad caps from n .sum
+unfolding sumTo
+one-size caps from {n} {r} e q =
+    let z : r ≡ 0 + r = omega arith in
+    let i : from ≡ from + 0 = omega arith in
+    let m : 0 + 1 ≡ n = omega arith in
+    z
+    ∙ sum-more (λ (p : ℕ). getD caps (from + p) 0) 0 {a = 0} {b = r} refl (q ∙ ap (λ (j : ℕ). getD caps j 0) i)
+    ∙ ap (sumTo (λ (p : ℕ). getD caps (from + p) 0)) m
+
+-- the slot's beginning and its capacity, by the arrays that are lent
+module _ (sh : Sheet) (ok : Accepted sh) (t : ℕ) (l : t < sh .slots) {phchs caps : List ℕ} (ep : phchs ≡ sh .phchs) (ec : caps ≡ sh .caps) where
+  pub start-asks : (t ≤ mostSlots) × ((k : ℕ) → k < t → getD phchs k 0 ≤ mostCodes)
+  start-asks = (omega (arith, ok .ranged .fifteen), λ k h. rw ep (ok .ranged .phch16 k (omega arith)))
+
+  pub start-is : {r : ℕ} → r ≡ wholeLoad phchs caps t .sum → r ≡ slotStart sh t
+  start-is e = e ∙ ap₂ (λ (p c : List ℕ). wholeLoad p c t .sum) ep ec
+
+  module _ {n : ℕ} (e : n ≡ getD phchs t 0) where
+    pub size-asks : mostCodes * t + n ≤ mostCapacities
+    size-asks = omega (arith, ok .ranged .fifteen, lent-count sh ok t l ep ec e, ok .ranged .phch16 t l)
+
+    pub size-is : {r : ℕ} → r ≡ slotLoad caps (mostCodes * t) n .sum → r ≡ slotCapacity sh t
+    size-is q = q ∙ ap₂ (λ (c : List ℕ) (k : ℕ). slotLoad c (mostCodes * t) k .sum) ec (lent-count sh ok t l ep ec e)
 
 -- step 8, by the mode
 module _ (sh : Sheet) (t k : ℕ) where

@@ -4,7 +4,9 @@ ghost use Rattle.sheet.specs.Range.{Ranged};
 ghost use Rattle.naming.specs.Name.{among, hasPlace};
 use counters::PhchNumber;
 use sheet::Sheet;
+use sheet::counts::CAPACITIES;
 use sheet::counts::CODES;
+use sheet::counts::SLOTS;
 
 // Whether k is one of 1 to n.
 fn is_among(k: u32, n: u16) -> bool
@@ -13,17 +15,32 @@ fn is_among(k: u32, n: u16) -> bool
     if k == 0 { false } else { k <= n as u32 }
 }
 
-// Whether the slot, the physical channel in it and the place in that exist.
-pub fn place_exists(fields: Sheet, slot: u32, phch: PhchNumber, place: u32) -> bool
-    requires { ⌜ Ranged fields ⌝ }
+// Whether the slot, the physical channel in it and the place in that exist. The arrays of the fields are lent beside them.
+pub fn exists_lent<'a>(
+    fields: Sheet,
+    phchs: &'a [u16; SLOTS],
+    caps: &'a [u16; CAPACITIES],
+    slot: u32,
+    phch: PhchNumber,
+    place: u32,
+) -> bool
+    requires { ⌜ Ranged fields × (now phchs ≡ fields .phchs) × (now caps ≡ fields .caps) ⌝ }
     ensures { λ r. ⌜ r ≡ hasPlace fields slot (phch .0) place ⌝ }
 {
     if is_among(slot, fields.slots) {
         let t = (slot - 1) as usize;
-        if is_among(phch.0, fields.phchs[t]) {
+        if is_among(phch.0, phchs[t]) {
             let m = CODES * t + phch.index();
-            return is_among(place, fields.caps[m]);
+            return is_among(place, caps[m]);
         }
     }
     false
+}
+
+// The same of the fields alone.
+pub fn place_exists(fields: Sheet, slot: u32, phch: PhchNumber, place: u32) -> bool
+    requires { ⌜ Ranged fields ⌝ }
+    ensures { λ r. ⌜ r ≡ hasPlace fields slot (phch .0) place ⌝ }
+{
+    exists_lent(fields, &fields.phchs, &fields.caps, slot, phch, place)
 }

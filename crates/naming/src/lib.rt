@@ -11,12 +11,13 @@ use counters::FrameNumber;
 use counters::PhchNumber;
 use counters::TrchNumber;
 use frame::multiplexing::start_of;
+use matching::shares::difference;
 use opening::Opened;
-use opening::change;
 use opening::channel_at;
-use opening::share;
 use pattern::closed::sent_at;
 use sheet::count;
+use sheet::counts::CAPACITIES;
+use sheet::counts::SLOTS;
 use sheet::sizes::frames;
 
 pub mod existing;
@@ -45,14 +46,16 @@ fn name_at(opened: Opened, frame: FrameNumber, x: u64) -> PlaceName
     ensures { λ r. ⌜ nameIn r ≡ nameAt (opened .fields) (frame .0) x ⌝ }
 {
     let i = channel_at(opened, x);
-    let fields = opened.fields;
+    let ttis = opened.fields.tti;
     let sizes = opened.sizes;
     let cuts = opened.cuts;
-    let tti = fields.tti[i];
+    let tti = ttis[i];
     let n = sizes[i];
-    let d = change(opened, i);
+    let low = cuts[i];
+    let w = cuts[i + 1] - low;
+    let d = difference(w, n);
     let e = start_of(n, d, tti, frame);
-    let s = sent_at(n, share(opened, i), e, d.less, d.size, x - cuts[i]);
+    let s = sent_at(n, w, e, d.less, d.size, x - low);
     let trch = TrchNumber::at(i);
     let bit = bit_number(tti, frame, s.bit);
     PlaceName {
@@ -62,7 +65,24 @@ fn name_at(opened: Opened, frame: FrameNumber, x: u64) -> PlaceName
     }
 }
 
-// The name of a place that exists.
+// The name of a place that exists. The arrays of the fields are lent beside them.
+pub fn name_lent<'a>(
+    opened: Opened,
+    phchs: &'a [u16; SLOTS],
+    caps: &'a [u16; CAPACITIES],
+    frame: FrameNumber,
+    slot: u32,
+    phch: PhchNumber,
+    place: u32,
+) -> PlaceName
+    requires { ⌜ Opens opened × (now phchs ≡ opened .fields .phchs) × (now caps ≡ opened .fields .caps) × Exists (opened .fields) slot (phch .0) place ⌝ }
+    ensures { λ r. ⌜ nameIn r ≡ nameOf (opened .fields) (frame .0) slot (phch .0) place ⌝ }
+{
+    let x = placing::index_at(opened, phchs, caps, slot, phch, place);
+    name_at(opened, frame, x)
+}
+
+// The same of an opened sheet alone.
 pub fn name_place(
     opened: Opened,
     frame: FrameNumber,
@@ -73,6 +93,14 @@ pub fn name_place(
     requires { ⌜ Opens opened × Exists (opened .fields) slot (phch .0) place ⌝ }
     ensures { λ r. ⌜ nameIn r ≡ nameOf (opened .fields) (frame .0) slot (phch .0) place ⌝ }
 {
-    let x = placing::index_at(opened, slot, phch, place);
-    name_at(opened, frame, x)
+    let fields = opened.fields;
+    name_lent(
+        opened,
+        &fields.phchs,
+        &fields.caps,
+        frame,
+        slot,
+        phch,
+        place,
+    )
 }

@@ -3,14 +3,15 @@ ghost use mathlib.Core.Path.{_≡_};
 ghost use Rattle.naming.specs.Name.{nameIn};
 ghost use Rattle.ummervia.specs.Naming.{named, noName, nameAnswer};
 use crate::NameAnswer;
-use crate::looking::open_frame;
+use crate::looking::LAST_FRAME;
 use counters::BitNumber;
 use counters::FrameNumber;
 use counters::PhchNumber;
 use counters::TrchNumber;
 use naming::PlaceName;
-use naming::existing::place_exists;
-use naming::name_place;
+use naming::existing::exists_lent;
+use naming::name_lent;
+use opening::open_sheet;
 
 fn no_name(number: u32) -> NameAnswer
     ensures { λ r. ⌜ named (r .number) (nameIn (r .name)) ≡ named number noName ⌝ }
@@ -27,14 +28,31 @@ fn no_name(number: u32) -> NameAnswer
 pub fn name(bytes: &[u8], frame: FrameNumber, slot: u32, phch: PhchNumber, place: u32) -> NameAnswer
     ensures { λ r. ⌜ named (r .number) (nameIn (r .name)) ≡ nameAnswer (now (bytes .entry)) (frame .0) slot (phch .0) place ⌝ }
 {
-    let answer = open_frame(bytes, frame);
+    let answer = open_sheet(bytes);
     let number = answer.number;
     if number != 0 {
         return no_name(number);
     }
-    let opened = answer.opened;
-    if place_exists(opened.fields, slot, phch, place) {
-        let name = name_place(opened, frame, slot, phch, place);
+    if frame.0 > LAST_FRAME {
+        return no_name(9);
+    }
+    if exists_lent(
+        answer.opened.fields,
+        &answer.opened.fields.phchs,
+        &answer.opened.fields.caps,
+        slot,
+        phch,
+        place,
+    ) {
+        let name = name_lent(
+            answer.opened,
+            &answer.opened.fields.phchs,
+            &answer.opened.fields.caps,
+            frame,
+            slot,
+            phch,
+            place,
+        );
         return NameAnswer { number: 0, name };
     }
     no_name(10)

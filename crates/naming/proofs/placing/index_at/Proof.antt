@@ -19,9 +19,11 @@ index-requires c κs = search needs
 slot-bit-requires : tie.Need-slot-bit-requires
 slot-bit-requires c κs =
     let s = c .before in
-    let x = s .pre .1 in
+    let x = s .pre .3 in
     let f = s .args .opened .fields in (
       s .pre .0 .accepted,
+      s .pre .1,
+      s .pre .2,
       slot-in f (s .args .slot) (s .args .phch .0) (s .args .place) x,
       omega (arith, c .index .ensures, phch-in f (s .args .slot) (s .args .phch .0) (s .args .place) x),
       x .place-from,

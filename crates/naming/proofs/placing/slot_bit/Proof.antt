@@ -1,6 +1,6 @@
 use native.Mathlib.Omega.{arith}
 use Rattle.naming.proofs.Slots.{bit-below}
-use Rattle.naming.proofs.PlacingLaws.{lent-asks, lent-bit}
+use Rattle.naming.proofs.PlacingLaws.{lent-count, lent-asks, lent-bit}
 use borrow.Author.Needs.{needs}
 use Rattle.naming.proofs.placing.slot_bit.Statement.{statement}
 use Rattle.naming.proofs.placing.slot_bit.Tie as tie
@@ -31,23 +31,25 @@ part-bit-at-start c = search needs
 
 part-bit-at-end : tie.Need-part-bit-at-end
 part-bit-at-end c =
-    let k = c .before in
-    let s = k .before .before .before in
-    omega (arith, k .count .ensures .0, s .pre .0 .ranged .phch16 (s .args .t) (s .pre .1), s .pre .0 .ranged .fifteen)
+    let s = c .before .before .before in
+    let n = lent-count (s .args .fields) (s .pre .0) (s .args .t) (s .pre .3) (s .pre .1) (s .pre .2) (c .count .ensures .0) in
+    omega (arith, n, s .pre .0 .ranged .phch16 (s .args .t) (s .pre .3), s .pre .0 .ranged .fifteen)
 
 bit-at-requires : tie.Need-bit-at-requires
 bit-at-requires c κs =
-    let k = c .before .before in
+    let k = c .before in
     let s = k .before .before .before in
-    lent-asks (s .args .t1) (s .pre .0) (s .args .t) (s .pre .1) (k .count .ensures .0) (s .args .p) (s .args .place) (s .pre .2) (s .pre .3) (s .pre .4)
+    lent-asks (s .args .fields) (s .pre .0) (s .args .t) (s .pre .3) (s .pre .1) (s .pre .2) (k .count .ensures .0) (s .args .p)
+    (s .args .place) (s .pre .4) (s .pre .5) (s .pre .6)
 
 returns : tie.Need-returns
 returns c =
-    let k = c .before .before .before in
+    let k = c .before .before in
     let s = k .before .before .before in
     let a = s .args in
-    let e = lent-bit (a .t1) (s .pre .0) (a .t) (s .pre .1) (k .count .ensures .0) (a .p) (a .place) (s .pre .2) (c .bit-at .ensures) in
-    (e, omega (arith, e, bit-below (a .t1) (a .t) (a .p) (a .place) (s .pre .2) (s .pre .3) (s .pre .4)))
+    let e =
+    lent-bit (a .fields) (s .pre .0) (a .t) (s .pre .3) (s .pre .1) (s .pre .2) (k .count .ensures .0) (a .p) (a .place) (s .pre .4) (c .bit-at .ensures) in
+    (e, omega (arith, e, bit-below (a .fields) (a .t) (a .p) (a .place) (s .pre .4) (s .pre .5) (s .pre .6)))
 
 pub slot-bit-spec : {M : Type 1} → statement M
 slot-bit-spec =

@@ -1,5 +1,6 @@
-use mathlib.Core.Path.{_≡_, sym, ap, _∙_}
+use mathlib.Core.Path.{_≡_, sym, ap, ap₂, _∙_}
 use mathlib.Core.Bool.{true}
+use mathlib.Core.List.{List}
 use Prim.Native.Nat.{ℕ, _+_, _*_, _-_, _≤_, _<_}
 use native.Mathlib.Omega.{arith}
 use lib.ListN.{getD}
@@ -8,33 +9,40 @@ use Rattle.sheet.specs.Fields.{phchsOf}
 use Rattle.naming.specs.Name.{among}
 use Rattle.naming.proofs.ExistLaws.{among-true, asked-all, asked-phch, asked-slot}
 use borrow.Author.Needs.{needs}
-use Rattle.naming.proofs.existing.place_exists.Statement.{statement}
-use Rattle.naming.proofs.existing.place_exists.Tie as tie
+use Rattle.naming.proofs.existing.exists_lent.Statement.{statement}
+use Rattle.naming.proofs.existing.exists_lent.Tie as tie
 
 -- the slot exists
 module _ (c : tie.Then1) where
-  slot-asked : among (c .before .before .args .slot) (c .before .before .args .t1 .slots) ≡ true
+  slot-asked : among (c .before .before .args .slot) (c .before .before .args .fields .slots) ≡ true
   slot-asked = sym (c .before .is-among .ensures) ∙ c .if1 .taken
 
   slot-there : (0 < c .before .before .args .slot) × (c .before .before .args .slot ≤ 15)
   slot-there =
       let s = c .before .before in
-      omega (arith, among-true (s .args .slot) (s .args .t1 .slots) slot-asked, s .pre .fifteen)
+      omega (arith, among-true (s .args .slot) (s .args .fields .slots) slot-asked, s .pre .0 .fifteen)
+
+-- whether the physical channel exists
+phch-answer : (c : tie.After-is-among2)
+    → (let s = c .before .before .before .before in c .is-among2 .result ≡ among (s .args .phch .0) (phchsOf (s .args .fields) (s .args .slot - 1)))
+phch-answer c =
+    let s = c .before .before .before .before in
+    c .is-among2 .ensures ∙ ap (λ (l : List ℕ). among (s .args .phch .0) (getD l (s .args .slot - 1) 0)) (s .pre .1)
 
 -- and the physical channel
 module _ (c : tie.Then2) where
-  phch-asked : (let s = c .before .before .before .before .before in among (s .args .phch .0) (phchsOf (s .args .t1) (s .args .slot - 1)) ≡ true)
-  phch-asked = sym (c .before .is-among2 .ensures) ∙ c .if2 .taken
+  phch-asked : (let s = c .before .before .before .before .before in among (s .args .phch .0) (phchsOf (s .args .fields) (s .args .slot - 1)) ≡ true)
+  phch-asked = sym (phch-answer (c .before)) ∙ c .if2 .taken
 
   phch-there : (let s = c .before .before .before .before .before in (0 < s .args .phch .0) × (s .args .phch .0 ≤ 16))
   phch-there =
       let t = c .before .before .before in
       let s = t .before .before in
-      let a = among-true (s .args .slot) (s .args .t1 .slots) (slot-asked t) in
+      let a = among-true (s .args .slot) (s .args .fields .slots) (slot-asked t) in
       omega (
         arith,
-        among-true (s .args .phch .0) (phchsOf (s .args .t1) (s .args .slot - 1)) phch-asked,
-        s .pre .phch16 (s .args .slot - 1) (omega (arith, a)),
+        among-true (s .args .phch .0) (phchsOf (s .args .fields) (s .args .slot - 1)) phch-asked,
+        s .pre .0 .phch16 (s .args .slot - 1) (omega (arith, a)),
       )
 
 is-among-requires : tie.Need-is-among-requires
@@ -80,22 +88,22 @@ returns c =
     let t = i .before .before .before .before in
     let a = t .before .before .args in
     c .is-among3 .ensures
-    ∙ ap (λ (p : ℕ). among (a .place) (getD (a .t1 .caps) (mostCodes * (a .slot - 1) + p) 0)) (i .index .ensures)
-    ∙ asked-all (a .t1) (a .slot) (a .phch .0) (a .place) (slot-asked t) (phch-asked (i .before))
+    ∙ ap₂ (λ (l : List ℕ) (p : ℕ). among (a .place) (getD l (mostCodes * (a .slot - 1) + p) 0)) (t .before .before .pre .2) (i .index .ensures)
+    ∙ asked-all (a .fields) (a .slot) (a .phch .0) (a .place) (slot-asked t) (phch-asked (i .before))
 
 returns-2 : tie.Need-returns-2
 returns-2 c =
     let t = c .before .before .before in
     let a = t .before .before .args in
-    asked-phch (a .t1) (a .slot) (a .phch .0) (a .place) (slot-asked t) (sym (c .before .is-among2 .ensures) ∙ c .if2 .left)
+    asked-phch (a .fields) (a .slot) (a .phch .0) (a .place) (slot-asked t) (sym (phch-answer (c .before)) ∙ c .if2 .left)
 
 returns-3 : tie.Need-returns-3
 returns-3 c =
     let a = c .before .before .args in
-    asked-slot (a .t1) (a .slot) (a .phch .0) (a .place) (sym (c .before .is-among .ensures) ∙ c .if1 .left)
+    asked-slot (a .fields) (a .slot) (a .phch .0) (a .place) (sym (c .before .is-among .ensures) ∙ c .if1 .left)
 
-pub place-exists-spec : {M : Type 1} → statement M
-place-exists-spec =
+pub exists-lent-spec : {M : Type 1} → statement M
+exists-lent-spec =
     tie.close
     (tie.spec
     is-among-requires
