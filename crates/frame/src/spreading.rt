@@ -1,24 +1,13 @@
 // Steps 8 and 9: the multiplexed bits interleaved, and mapped slot after slot.
 ghost use mathlib.Core.Path.{_≡_};
-ghost use Prim.Native.Nat.{_<_};
 ghost use lib.ListN.{length};
 ghost use Rattle.sheet.specs.Sizes.{capacityAll};
-ghost use Rattle.sheet.specs.Range.{Ranged, Accepted};
-ghost use Rattle.frame.specs.Frame.{slotStart, interleavedSlots, interleavedBits, mappedSlots, spread};
+ghost use Rattle.sheet.specs.Range.{Accepted};
+ghost use Rattle.frame.specs.Frame.{interleavedSlots, interleavedBits, mappedSlots, spread};
 use sheet::Sheet;
 use sheet::count;
 use sheet::counts::CODES;
 use sheet::sizes::slot_load;
-use sheet::sizes::whole_load;
-
-// Where slot t begins.
-pub fn slot_start(fields: Sheet, t: usize) -> u64
-    requires { ⌜ Ranged fields × (t < fields .slots) ⌝ }
-    ensures { λ r. ⌜ r ≡ slotStart fields t ⌝ }
-{
-    let load = whole_load(&fields.phchs, &fields.caps, t);
-    load.sum
-}
 
 // Mode 1: each slot's part interleaved by itself.
 fn interleave_slots(bits: &[u8], fields: Sheet, out: &mut [u8])
