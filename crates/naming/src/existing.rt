@@ -36,11 +36,3 @@ pub fn exists_lent<'a>(
     }
     false
 }
-
-// The same of the fields alone.
-pub fn place_exists(fields: Sheet, slot: u32, phch: PhchNumber, place: u32) -> bool
-    requires { ⌜ Ranged fields ⌝ }
-    ensures { λ r. ⌜ r ≡ hasPlace fields slot (phch .0) place ⌝ }
-{
-    exists_lent(fields, &fields.phchs, &fields.caps, slot, phch, place)
-}

@@ -81,26 +81,3 @@ pub fn name_lent<'a>(
     let x = placing::index_at(opened, phchs, caps, slot, phch, place);
     name_at(opened, frame, x)
 }
-
-// The same of an opened sheet alone.
-pub fn name_place(
-    opened: Opened,
-    frame: FrameNumber,
-    slot: u32,
-    phch: PhchNumber,
-    place: u32,
-) -> PlaceName
-    requires { ⌜ Opens opened × Exists (opened .fields) slot (phch .0) place ⌝ }
-    ensures { λ r. ⌜ nameIn r ≡ nameOf (opened .fields) (frame .0) slot (phch .0) place ⌝ }
-{
-    let fields = opened.fields;
-    name_lent(
-        opened,
-        &fields.phchs,
-        &fields.caps,
-        frame,
-        slot,
-        phch,
-        place,
-    )
-}
