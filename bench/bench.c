@@ -1,7 +1,7 @@
 /*
  * bench IMPLEMENTATION CALL FRAME MODE MATCHING TIMES [INDEX]: makes one call TIMES times, for bench/run to count.
  *
- * IMPLEMENTATION is library or reference; CALL is build, take, name or channel; FRAME (244, 2440, 54000, 54000x15), MODE
+ * IMPLEMENTATION is library or reference; CALL is build, take, heard, link, name or channel; FRAME (244, 2440, 54000, 54000x15), MODE
  * (0, 1) and MATCHING (puncturing, repetition) choose the sheet. A name is asked for the place with this INDEX in the
  * frame, from 0.
  */
@@ -112,8 +112,6 @@ static void build(const struct implementation *measured, unsigned long times)
 {
     uint64_t at;
     ref_build(sheet, sheet_len, FRAME_NUMBER, contents, contents_len, expected, frame_len, &at);
-    if (measured->build == NULL)
-        fail("the call is not there");
     for (; times > 0; times--)
         if (measured->build(sheet, sheet_len, FRAME_NUMBER, contents, contents_len, frame, frame_len, &at) != 0)
             fail("the build is refused");
@@ -121,22 +119,47 @@ static void build(const struct implementation *measured, unsigned long times)
         fail("the frame differs from the reference's");
 }
 
-/* Soft values of either sign, none of them whole, taken back into a buffer that held others. */
+/* Soft values of either sign, none of them whole. */
+static void make_soft(void)
+{
+    for (size_t i = 0; i < frame_len; i++)
+        soft[i] = (float)(i % 97) * 0.37f - 17.5f;
+}
+
+/* Taken back into a buffer that held other values. */
 static void take(const struct implementation *measured, unsigned long times)
 {
     uint64_t at;
-    for (size_t i = 0; i < frame_len; i++)
-        soft[i] = (float)(i % 97) * 0.37f - 17.5f;
+    make_soft();
     for (size_t i = 0; i < joined_len; i++)
         taken[i] = right[i] = (float)i;
     ref_take_back(sheet, sheet_len, FRAME_NUMBER, soft, frame_len, right, joined_len, &at);
-    if (measured->take_back == NULL)
-        fail("the call is not there");
     for (; times > 0; times--)
         if (measured->take_back(sheet, sheet_len, FRAME_NUMBER, soft, frame_len, taken, joined_len, &at) != 0)
             fail("the taking back is refused");
     if (memcmp(taken, right, joined_len * sizeof *taken) != 0)
         fail("what came home differs from the reference's");
+}
+
+/* Of the first channel, in one-channel frames all of the frame. */
+static void link_record(const struct implementation *measured, unsigned long times)
+{
+    uint64_t at, punctured;
+    float least, greatest;
+    make_soft();
+    for (; times > 0; times--)
+        if (measured->link(sheet, sheet_len, FRAME_NUMBER, soft, frame_len, 1, &at, &least, &greatest, &punctured) != 0)
+            fail("the link record is refused");
+}
+
+static void heard(const struct implementation *measured, unsigned long times)
+{
+    uint64_t at, copies;
+    float value;
+    make_soft();
+    for (; times > 0; times--)
+        if (measured->heard(sheet, sheet_len, FRAME_NUMBER, soft, frame_len, 1, 3, &at, &value, &copies) != 0)
+            fail("the bit is refused");
 }
 
 /* All PhCHs have the same capacity, so that an index tells its PhCH by division. */
@@ -146,8 +169,6 @@ static void name(const struct implementation *measured, const struct row *row, u
     uint32_t slot = 0, phch = index / row->capacity, place = index % row->capacity + 1;
     for (; row->phchs[slot] != 0 && phch >= row->phchs[slot]; slot++)
         phch -= row->phchs[slot];
-    if (measured->name_of == NULL)
-        fail("the call is not there");
     ref_name(sheet, sheet_len, FRAME_NUMBER, slot + 1, phch + 1, place, &right_trch, &right_bit, &right_copy);
     for (; times > 0; times--)
         if (measured->name_of(sheet, sheet_len, FRAME_NUMBER, slot + 1, phch + 1, place, &trch, &bit, &copy) != 0)
@@ -178,6 +199,10 @@ int main(int argc, char **argv)
         build(measured, times);
     else if (strcmp(argv[2], "take") == 0)
         take(measured, times);
+    else if (strcmp(argv[2], "heard") == 0)
+        heard(measured, times);
+    else if (strcmp(argv[2], "link") == 0)
+        link_record(measured, times);
     else if (strcmp(argv[2], "name") == 0 && argc == 8)
         name(measured, row, (uint32_t)strtoul(argv[7], NULL, 10), times);
     else if (strcmp(argv[2], "channel") == 0)
