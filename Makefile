@@ -87,6 +87,7 @@ target/c/%: bench/%.c include/ummervia.h $(ARCHIVE)
 	$(CC) $(CFLAGS) -O3 $(filter %.c %.a,$^) -o $@
 
 target/c/vectors target/c/random target/c/bench: $(REFERENCE)
+target/c/calls target/c/random: tests/fields.h
 
 $(ARCHIVE): $(SOURCES)
 	rt staticlib ummervia

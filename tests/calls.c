@@ -3,6 +3,7 @@
 #include <stdio.h>
 #include <string.h>
 
+#include "fields.h"
 #include "ummervia.h"
 
 static unsigned long checks, failures;
@@ -152,20 +153,6 @@ static struct sheet pack(const uint16_t *fields)
     }
     return sheet;
 }
-
-/* Whether a place of the fields holds one, by the counts I, T and P. */
-static bool in_use(const uint16_t *fields, unsigned place)
-{
-    if (place < UMV_FIELD_TTI)
-        return true;
-    if (place < UMV_FIELD_PHCHS)
-        return (place - UMV_FIELD_TTI) % 8 < fields[UMV_FIELD_CHANNELS];
-    if (place < UMV_FIELD_CAPACITIES)
-        return place - UMV_FIELD_PHCHS < fields[UMV_FIELD_SLOTS];
-    unsigned t = (place - UMV_FIELD_CAPACITIES) / 16, p = (place - UMV_FIELD_CAPACITIES) % 16;
-    return t < fields[UMV_FIELD_SLOTS] && p < fields[UMV_FIELD_PHCHS + t];
-}
-
 /* Every place that holds no field set to `value`. */
 static void fill_unused(uint16_t *fields, uint16_t value)
 {

@@ -10,6 +10,7 @@
 #include <stdlib.h>
 #include <string.h>
 
+#include "fields.h"
 #include "implementation.h"
 
 enum {
@@ -378,20 +379,6 @@ static void give_soft(struct input *in, size_t count)
         for (uint32_t bad = between(1, 3); bad > 0; bad--)
             values[between(0, (uint32_t)count - 1)] = float_of(bad_bits[between(0, 5)]);
 }
-
-/* Whether a place of the fields holds one, by the counts I, T and P. */
-static bool in_use(uint32_t place)
-{
-    if (place < UMV_FIELD_TTI)
-        return true;
-    if (place < UMV_FIELD_PHCHS)
-        return (place - UMV_FIELD_TTI) % 8 < fields[UMV_FIELD_CHANNELS];
-    if (place < UMV_FIELD_CAPACITIES)
-        return place - UMV_FIELD_PHCHS < fields[UMV_FIELD_SLOTS];
-    uint32_t t = (place - UMV_FIELD_CAPACITIES) / 16, p = (place - UMV_FIELD_CAPACITIES) % 16;
-    return t < fields[UMV_FIELD_SLOTS] && p < fields[UMV_FIELD_PHCHS + t];
-}
-
 /* The fields, with chance's values where the counts leave none, and now and then one near the bounds of a range. */
 static void give_fields(struct input *in)
 {
@@ -399,7 +386,7 @@ static void give_fields(struct input *in)
     size_t count = length_near(UMV_FIELDS);
     uint16_t *given = give(in, count, sizeof *given);
     for (uint32_t place = 0; place < count && place < UMV_FIELDS; place++)
-        if (in_use(place))
+        if (in_use(fields, place))
             given[place] = fields[place];
     uint32_t place = between(0, one_in(2) ? UMV_FIELDS - 1 : 3);
     if (one_in(6) && place < count)

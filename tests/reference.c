@@ -177,6 +177,13 @@ static uint32_t open_sheet(const uint8_t *sheet, size_t sheet_len, struct form *
     return number != 0 ? number : measure(form);
 }
 
+/* 1 to 9. */
+static uint32_t open_frame(const uint8_t *sheet, size_t sheet_len, uint32_t frame_number, struct form *form)
+{
+    uint32_t number = open_sheet(sheet, sheet_len, form);
+    return number != 0 ? number : frame_number > 255 ? 9 : 0;
+}
+
 uint32_t ref_sheet_read(const uint8_t *sheet, size_t sheet_len, uint16_t *fields, size_t fields_len, uint64_t *at)
 {
     struct form form;
@@ -539,11 +546,9 @@ uint32_t ref_name(const uint8_t *sheet, size_t sheet_len, uint32_t frame_number,
     struct form form;
     uint32_t multiplexed[MOST], copies[MOST], frame[MOST];
     *trch = *bit = *copy = 0;
-    uint32_t number = open_sheet(sheet, sheet_len, &form);
+    uint32_t number = open_frame(sheet, sheet_len, frame_number, &form);
     if (number != 0)
         return number;
-    if (frame_number > 255)
-        return 9;
     uint32_t index = index_of(&form, slot, phch, place);
     if (index == MOST)
         return 10;
@@ -720,11 +725,9 @@ uint32_t ref_heard(const uint8_t *sheet, size_t sheet_len, uint32_t frame_number
     uint32_t counts[MOST];
     *at = *copies = 0;
     *value = 0.0f;
-    uint32_t number = open_sheet(sheet, sheet_len, &form);
+    uint32_t number = open_frame(sheet, sheet_len, frame_number, &form);
     if (number != 0)
         return number;
-    if (frame_number > 255)
-        return 9;
     if (trch < 1 || trch > form.I || bit < 1 || bit > form.channels[trch - 1].N)
         return 10;
     number = check_soft(&form, frame, frame_len, 1, at);
@@ -765,11 +768,9 @@ uint32_t ref_link(const uint8_t *sheet, size_t sheet_len, uint32_t frame_number,
     uint32_t copies[MOST];
     *at = *punctured = 0;
     *least = *greatest = 0.0f;
-    uint32_t number = open_sheet(sheet, sheet_len, &form);
+    uint32_t number = open_frame(sheet, sheet_len, frame_number, &form);
     if (number != 0)
         return number;
-    if (frame_number > 255)
-        return 9;
     if (trch < 1 || trch > form.I)
         return 10;
     number = check_soft(&form, frame, frame_len, 1, at);
