@@ -14,12 +14,12 @@ use sheet::count;
 use sheet::counts::CAPACITIES;
 use sheet::counts::CHANNELS;
 use sheet::counts::CODES;
-use ummervia::asking::channel;
-use ummervia::building::build;
-use ummervia::finishing::finish;
+use ummervia::build;
+use ummervia::channel;
+use ummervia::finish;
 use ummervia::name::name;
-use ummervia::receiving::take_back;
-use ummervia::sheets::sheet_read;
+use ummervia::sheet_read;
+use ummervia::take_back;
 
 fn say(text: &[u8]) {
     io::write_all(STDOUT_FILENO, text);
