@@ -1,12 +1,9 @@
 -- Laws of asking: an accepted opening gives the sheet's numbers, a refused one zeros.
 use mathlib.Core.Path.{_≡_, sym, ap, _∙_}
-use mathlib.Core.Bool.{Bool, true, false, _||_}
+use mathlib.Core.Bool.{Bool, true, false}
 use mathlib.Core.List.{List, [], _∷_}
-use Prim.Native.Nat.{ℕ, _-_, _≤_, _<_}
+use Prim.Native.Nat.{ℕ, _-_}
 use native.Mathlib.Omega.{arith}
-use borrow.Author.Tests.{eq-eqb, ne-eqb, eqb-false, ltb-false}
-use lib.Dec.{eqb, ltb}
-use Rattle.laws.proofs.TestLaws.{or-left, or-right}
 use Rattle.counters.specs.Lines.{line}
 use Rattle.counters.proofs.LineLaws.{last-holds, last-clear, first-append, given-yes, given-no}
 use Rattle.sheet.specs.Fields.{sheetOf}
@@ -16,7 +13,8 @@ use Rattle.sheet.proofs.NumberLaws.{read-numbered}
 use Rattle.opening.specs.Opened.{openAnswer}
 use Rattle.opening.specs.declared.OpenAnswer.{OpenAnswer}
 use Rattle.opening.proofs.OpenLaws.{number-open, fields-open}
-use Rattle.ummervia.specs.Asking.{sizesIn, noSizes, sizesAnswer, noTrch, channelNumber, channelIn, noChannel, channelAnswer}
+use Rattle.looking.specs.Looking.{noTrch}
+use Rattle.ummervia.specs.Asking.{sizesIn, noSizes, sizesAnswer, channelNumber, channelIn, noChannel, channelAnswer}
 use Rattle.ummervia.specs.declared.SizesAnswer.{SizesAnswer}
 use Rattle.ummervia.specs.declared.ChannelAnswer.{ChannelAnswer}
 
@@ -27,19 +25,6 @@ sizes-same sh ec et ee ed ej = rw (ec, et, ee, ed, ej)
 pub channel-same : (sh : Sheet) (i : ℕ) {f e n v : ℕ} → f ≡ channelIn sh i .f → e ≡ channelIn sh i .e → n ≡ channelIn sh i .n → v ≡ channelIn sh i .v
     → _≡_ {A = ChannelAnswer} (record { number = 0; f = f; e = e; n = n; v = v }) (channelIn sh i)
 channel-same sh i ef ee en ev = rw (ef, ee, en, ev)
-
--- TrCH k is there, or is not
-pub trch-zero : (sh : Sheet) (k : ℕ) → k ≡ 0 → true ≡ noTrch sh k
-trch-zero sh k e = sym (ap (λ (b : Bool). b || ltb (sh .channels) k) (eq-eqb k 0 e))
-
-pub trch-past : (sh : Sheet) (k : ℕ) {x : ℕ} → x ≡ sh .channels → (k ≡ 0 → ⊥) → ltb x k ≡ noTrch sh k
-trch-past sh k e z = ap (λ (y : ℕ). ltb y k) e ∙ sym (ap (λ (b : Bool). b || ltb (sh .channels) k) (ne-eqb k 0 z))
-
-pub trch-there : (sh : Sheet) (k : ℕ) → noTrch sh k ≡ false → (0 < k) × (k - 1 < sh .channels)
-trch-there sh k h =
-    let a : k ≡ 0 → ⊥ = eqb-false k 0 (or-left _ (ltb (sh .channels) k) h) in
-    let b : k ≤ sh .channels = ltb-false (sh .channels) k (or-right (eqb k 0) _ h) in
-    (omega arith, omega arith)
 
 module _ (s : List ℕ) (a : OpenAnswer) (e : a ≡ openAnswer s) where
   number : a .number ≡ readNumber s

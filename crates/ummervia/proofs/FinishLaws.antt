@@ -24,12 +24,11 @@ use Rattle.interleaving.specs.First.{finished, Finishing}
 use Rattle.interleaving.proofs.EqualisedLaws.{segments-hold}
 use Rattle.frame.proofs.SpreadLaws.{part-length}
 use Rattle.homing.specs.Home.{channelStart, finishedOf}
-use Rattle.ummervia.specs.Asking.{noTrch}
-use Rattle.ummervia.specs.Looking.{notLong}
-use Rattle.ummervia.specs.Outcome.{outcome}
+use Rattle.looking.specs.Looking.{noTrch, notLong}
+use Rattle.looking.specs.Outcome.{outcome}
 use Rattle.ummervia.specs.Receiving.{finishLines, finishInto}
-use Rattle.ummervia.proofs.LookLaws.{either-left, either-right, both-clear}
-use Rattle.ummervia.proofs.OutcomeLaws.{wrote-no, wrote-yes}
+use Rattle.looking.proofs.LookLaws.{either-left, either-right, both-clear}
+use Rattle.looking.proofs.OutcomeLaws.{wrote-no, wrote-yes}
 
 -- ---- the channel's part, which begins at a and has u values
 

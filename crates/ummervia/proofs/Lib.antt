@@ -1,5 +1,3 @@
-pub mod OutcomeLaws
-pub mod LookLaws
 pub mod AskLaws
 pub mod FlatLaws
 pub mod SheetLaws

@@ -25,15 +25,13 @@ use Rattle.homing.specs.declared.receiving.Asked.{Asked}
 use Rattle.homing.specs.declared.receiving.Asked.the-variants.{Bit, Channel}
 use Rattle.homing.specs.declared.receiving.Reception.{Reception}
 use Rattle.homing.proofs.ReceiveLaws.{heard-at, link-in}
-use Rattle.ummervia.specs.Looking.{frameLines, lookLines, indexed, lookAnswer, Begun}
-use Rattle.ummervia.specs.Asking.{noTrch}
+use Rattle.looking.specs.Looking.{frameLines, noTrch, lookLines, indexed, lookAnswer, Begun}
 use Rattle.ummervia.specs.Listening.{noBit, heardAnswer, numbers, heardNumbers, linkAnswer}
 use Rattle.ummervia.specs.Listened.{missing, listenLines, askedFor, unheard, listenedMade, listenedOf}
 use Rattle.ummervia.specs.declared.HeardAnswer.{HeardAnswer}
 use Rattle.ummervia.specs.declared.LinkAnswer.{LinkAnswer}
 use Rattle.ummervia.specs.declared.listening.Listened.{Listened}
-use Rattle.ummervia.proofs.AskLaws.{trch-there}
-use Rattle.ummervia.proofs.LookLaws.{Early, early-numbered, early-below, early-more, early-frame, begun-fields, either-left, either-right}
+use Rattle.looking.proofs.LookLaws.{trch-there, Early, early-numbered, early-below, early-more, early-frame, begun-fields, either-left, either-right}
 
 -- ---- what is asked for
 

@@ -20,11 +20,10 @@ use Rattle.matching.proofs.ShareLaws.{cut-up, cut-most}
 use Rattle.opening.specs.Opened.{openAnswer}
 use Rattle.opening.specs.declared.OpenAnswer.{OpenAnswer}
 use Rattle.opening.proofs.OpenLaws.{number-open, fields-open, accepted-in, weighs}
-use Rattle.ummervia.specs.Asking.{noTrch}
-use Rattle.ummervia.specs.Looking.{notLong}
+use Rattle.looking.specs.Looking.{noTrch, notLong}
 use Rattle.ummervia.specs.Part.{partIn, noPart, partNumber, partAnswer, partOf}
 use Rattle.ummervia.specs.declared.PartAnswer.{PartAnswer}
-use Rattle.ummervia.proofs.AskLaws.{trch-there}
+use Rattle.looking.proofs.LookLaws.{trch-there}
 
 pub part-same : (sh : Sheet) (i : ℕ) {x y : ℕ} → x ≡ cutOf sh i → y ≡ shareOf sh i
     → _≡_ {A = PartAnswer} (record { number = 0; start = x; length = y }) (partIn sh i)

@@ -17,10 +17,10 @@ use Rattle.sheet.specs.declared.SheetAnswer.{SheetAnswer}
 use Rattle.sheet.proofs.NumberLaws.{read-numbered, number-read, fields-read}
 use Rattle.writing.specs.Numbers.{fieldNumber, writeNumber}
 use Rattle.writing.specs.Written.{bytesOf, lengthAnswer, writeAnswer, writtenTo}
-use Rattle.ummervia.specs.Outcome.{Outcome, outcome, wrote}
+use Rattle.looking.specs.Outcome.{Outcome, outcome, wrote}
 use Rattle.ummervia.specs.Flat.{flatCount, flatOf, sheetFrom}
 use Rattle.ummervia.specs.Sheets.{notFlat, readInto, writeInto, answerMade, lengthFrom, writeFrom}
-use Rattle.ummervia.proofs.OutcomeLaws.{wrote-no, wrote-yes}
+use Rattle.looking.proofs.OutcomeLaws.{wrote-no, wrote-yes}
 
 -- reading into a row that was `old`
 module _ (s : List ℕ) (a : SheetAnswer) (e : a ≡ readAnswer s) (old : List ℕ) where

@@ -15,10 +15,10 @@ use Rattle.writing.specs.Numbers.{writeNumber}
 use Rattle.writing.specs.Written.{bytesOf, trimmed}
 use Rattle.writing.proofs.ReadWritten.{read-back}
 use Rattle.writing.proofs.WriteRead.{written-again, accepted-again}
-use Rattle.ummervia.specs.Outcome.{outcome}
+use Rattle.looking.specs.Outcome.{outcome}
 use Rattle.ummervia.specs.Flat.{flatCount, flatOf, sheetFrom}
 use Rattle.ummervia.specs.Sheets.{notFlat, readInto, writeInto, writeFromLines, writeFrom}
-use Rattle.ummervia.proofs.OutcomeLaws.{wrote-yes}
+use Rattle.looking.proofs.OutcomeLaws.{wrote-yes}
 use Rattle.ummervia.proofs.FlatLaws.{Shaped, flat-long, flat-back}
 use Rattle.ummervia.proofs.SheetLaws.{read-laid, write-flat}
 

@@ -9,7 +9,7 @@ use Rattle.sheet.specs.Numbers.{readAnswer}
 use Rattle.sheet.specs.declared.Sheet.{Sheet}
 use Rattle.sheet.specs.declared.SheetAnswer.{SheetAnswer}
 use Rattle.writing.specs.Written.{lengthAnswer}
-use Rattle.ummervia.specs.Outcome.{Outcome}
+use Rattle.looking.specs.Outcome.{Outcome}
 use Rattle.ummervia.specs.Sheets.{readInto, writeInto, lengthFrom, writeFrom}
 use Rattle.ummervia.specs.Asking.{sizesAnswer, channelAnswer}
 use Rattle.ummervia.specs.Building.{buildInto, multiplexInto, spreadInto}

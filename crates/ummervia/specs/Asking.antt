@@ -1,14 +1,13 @@
 -- What asking for a sheet's sizes and for one channel's numbers answers.
-use mathlib.Core.Bool.{Bool, _||_}
 use mathlib.Core.List.{List, [], _∷_, _++_}
 use Prim.Native.Nat.{ℕ, _-_}
-use lib.Dec.{eqb, ltb}
 use Rattle.counters.specs.Lines.{Line, line, firstOf, given}
 use Rattle.sheet.specs.Fields.{sheetOf, encodedOf}
 use Rattle.sheet.specs.Sizes.{framesOf, sizeOf, encodedAll, equalisedAll, capacityAll}
 use Rattle.sheet.specs.Numbers.{readLines, readNumber}
 use Rattle.sheet.specs.declared.Sheet.{Sheet}
 use Rattle.matching.specs.Shares.{shareOf}
+use Rattle.looking.specs.Looking.{noTrch}
 use Rattle.ummervia.specs.declared.SizesAnswer.{SizesAnswer}
 use Rattle.ummervia.specs.declared.ChannelAnswer.{ChannelAnswer}
 
@@ -25,10 +24,6 @@ noSizes number = sizesMade number 0 0 0 0 0
 
 abbrev pub sizesAnswer : List ℕ → SizesAnswer
 sizesAnswer s = given (readNumber s) (sizesIn (sheetOf s)) (noSizes (readNumber s))
-
--- 10: TrCH k, counted from 1, does not exist
-abbrev pub noTrch : Sheet → ℕ → Bool
-noTrch sh k = eqb k 0 || ltb (sh .channels) k
 
 abbrev pub channelLines : List ℕ → ℕ → List Line
 channelLines s k = readLines s ++ line (noTrch (sheetOf s) k) 10 ∷ []

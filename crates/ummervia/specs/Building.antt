@@ -9,8 +9,8 @@ use Rattle.sheet.specs.Sizes.{encodedAll, capacityAll}
 use Rattle.sheet.specs.Numbers.{readLines}
 use Rattle.frame.specs.Frame.{spread, multiplexedBits, bitFrame}
 use Rattle.frame.specs.Bit.{isBit, firstBad}
-use Rattle.ummervia.specs.Outcome.{Outcome}
-use Rattle.ummervia.specs.Looking.{frameLines, lookLines, looked}
+use Rattle.looking.specs.Outcome.{Outcome}
+use Rattle.looking.specs.Looking.{frameLines, lookLines, looked}
 
 -- build and multiplex: 1 to 9, then the contents, of which the sum of E is needed, and D places in the buffer of n
 abbrev pub contentLines : List ℕ → ℕ → List ℕ → ℕ → List Line

@@ -1,6 +1,4 @@
-pub mod Outcome
 pub mod Flat
-pub mod Looking
 pub mod Sheets
 pub mod Asking
 pub mod Building

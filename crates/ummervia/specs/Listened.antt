@@ -14,8 +14,7 @@ use Rattle.homing.specs.Receiving.{noLink, receptionOf}
 use Rattle.homing.specs.declared.receiving.Asked.{Asked}
 use Rattle.homing.specs.declared.receiving.Asked.the-variants.{Bit, Channel}
 use Rattle.homing.specs.declared.receiving.Reception.{Reception}
-use Rattle.ummervia.specs.Looking.{frameLines, lookLines, indexed}
-use Rattle.ummervia.specs.Asking.{noTrch}
+use Rattle.looking.specs.Looking.{frameLines, noTrch, lookLines, indexed}
 use Rattle.ummervia.specs.Listening.{noBit}
 use Rattle.ummervia.specs.declared.listening.Listened.{Listened}
 

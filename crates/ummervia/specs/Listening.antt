@@ -15,8 +15,7 @@ use Rattle.joining.specs.declared.Heard.the-variants.{Nothing}
 use Rattle.joining.specs.declared.linking.Link.{Link}
 use Rattle.homing.specs.Home.{heardAt, linkIn}
 use Rattle.homing.specs.Receiving.{noLink}
-use Rattle.ummervia.specs.Looking.{frameLines, lookLines, indexed}
-use Rattle.ummervia.specs.Asking.{noTrch}
+use Rattle.looking.specs.Looking.{frameLines, noTrch, lookLines, indexed}
 use Rattle.ummervia.specs.declared.HeardAnswer.{HeardAnswer}
 use Rattle.ummervia.specs.declared.LinkAnswer.{LinkAnswer}
 

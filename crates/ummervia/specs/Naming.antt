@@ -5,7 +5,7 @@ use Prim.Native.Nat.{ℕ}
 use Rattle.counters.specs.Lines.{Line, line, firstOf, given}
 use Rattle.sheet.specs.Fields.{sheetOf}
 use Rattle.naming.specs.Name.{Name, nameOf, hasPlace}
-use Rattle.ummervia.specs.Looking.{frameLines}
+use Rattle.looking.specs.Looking.{frameLines}
 
 pub record Naming : Type 0 where
   pub number : ℕ

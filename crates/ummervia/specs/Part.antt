@@ -8,8 +8,7 @@ use Rattle.sheet.specs.Sizes.{capacityAll}
 use Rattle.sheet.specs.Numbers.{readLines}
 use Rattle.sheet.specs.declared.Sheet.{Sheet}
 use Rattle.matching.specs.Shares.{cutOf, shareOf}
-use Rattle.ummervia.specs.Asking.{noTrch}
-use Rattle.ummervia.specs.Looking.{notLong}
+use Rattle.looking.specs.Looking.{noTrch, notLong}
 use Rattle.ummervia.specs.declared.PartAnswer.{PartAnswer}
 
 -- 1 to 8, then 10 where TrCH k does not exist, then 11 where the frame has not D values

@@ -11,9 +11,8 @@ use Rattle.sheet.specs.Numbers.{readLines}
 use Rattle.joining.specs.Range.{inRange, firstOut}
 use Rattle.homing.specs.Gather.{gathered}
 use Rattle.homing.specs.Home.{takenBack, takenCount, finishedOf}
-use Rattle.ummervia.specs.Outcome.{Outcome, wrote}
-use Rattle.ummervia.specs.Looking.{frameLines, notLong, lookLines, looked}
-use Rattle.ummervia.specs.Asking.{noTrch}
+use Rattle.looking.specs.Outcome.{Outcome, wrote}
+use Rattle.looking.specs.Looking.{frameLines, noTrch, notLong, lookLines, looked}
 
 -- gather: 1 to 8, then the frame's values, of which D are needed, and D places
 abbrev pub gatherLines : List ℕ → List Float → ℕ → List Line

@@ -11,9 +11,9 @@ use Rattle.sheet.specs.Numbers.{readLines}
 use Rattle.sheet.specs.declared.Sheet.{Sheet}
 use Rattle.writing.specs.Numbers.{fieldLines, writeLines, writeNumber}
 use Rattle.writing.specs.Written.{bytesOf}
-use Rattle.ummervia.specs.Outcome.{Outcome, wrote}
+use Rattle.looking.specs.Outcome.{Outcome, wrote}
 use Rattle.ummervia.specs.Flat.{flatCount, flatOf, sheetFrom}
-use Rattle.ummervia.specs.Looking.{notLong}
+use Rattle.looking.specs.Looking.{notLong}
 
 -- 11: a row of fields has not 283 numbers
 abbrev pub notFlat : ℕ → Bool

@@ -2,15 +2,15 @@
 ghost use mathlib.Core.Path.{_≡_};
 ghost use Prim.Native.Nat.{_<_};
 ghost use Rattle.opening.specs.Opened.{Opens};
-ghost use Rattle.ummervia.specs.Asking.{sizesIn, sizesAnswer, noTrch, channelIn, noChannel, channelAnswer};
+ghost use Rattle.ummervia.specs.Asking.{sizesIn, sizesAnswer, channelIn, noChannel, channelAnswer};
 use crate::ChannelAnswer;
 use crate::SizesAnswer;
 use counters::TrchNumber;
+use looking::absent;
 use opening::Opened;
 use opening::capacity;
 use opening::open_sheet;
 use opening::share;
-use sheet::Sheet;
 use sheet::sizes::all_encoded;
 use sheet::sizes::all_equalised;
 use sheet::sizes::frames;
@@ -52,16 +52,6 @@ pub fn sizes(bytes: &[u8]) -> SizesAnswer
         capacity: 0,
         joined: 0,
     }
-}
-
-// Whether TrCH k, counted from 1, does not exist.
-pub fn absent(fields: Sheet, trch: TrchNumber) -> bool
-    ensures { λ r. ⌜ r ≡ noTrch fields (trch .0) ⌝ }
-{
-    if trch.0 == 0 {
-        return true;
-    }
-    wide(fields.channels) < trch.0 as u64
 }
 
 fn channel_of(opened: Opened, i: usize) -> ChannelAnswer

@@ -1,14 +1,14 @@
 // A frame is built: steps 1 to 9, or 1 to 7, or 8 and 9.
 ghost use mathlib.Core.Path.{_≡_};
-ghost use Rattle.ummervia.specs.Outcome.{outcome};
+ghost use Rattle.looking.specs.Outcome.{outcome};
 ghost use Rattle.ummervia.specs.Building.{buildInto, multiplexInto, sendInto, spreadInto};
-use crate::looking::look;
-use crate::looking::open_frame;
 use counters::Answer;
 use counters::FrameNumber;
 use frame::building::build_bits;
 use frame::multiplexing::multiplex_bits;
 use frame::spreading::spread_bits;
+use looking::look;
+use looking::open_frame;
 use opening::capacity;
 use opening::open_sheet;
 use sheet::counts::MOST_BITS;

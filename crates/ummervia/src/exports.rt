@@ -1,6 +1,6 @@
 // The calls as C has them: a slice is a pointer and a length, further answers are written through pointers, on a refusal as zeros.
 ghost use mathlib.Core.Path.{_≡_};
-ghost use Rattle.ummervia.specs.Outcome.{outcome};
+ghost use Rattle.looking.specs.Outcome.{outcome};
 ghost use Rattle.ummervia.specs.Sheets.{readInto, answerMade, lengthFrom, writeFrom};
 ghost use Rattle.ummervia.specs.Building.{buildInto, multiplexInto, spreadInto};
 ghost use Rattle.ummervia.specs.Naming.{nameLeft, nameAnswer};

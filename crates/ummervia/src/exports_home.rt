@@ -1,6 +1,6 @@
 // The calls that bring soft values home, as C has them: see exports.rt.
 ghost use mathlib.Core.Path.{_≡_};
-ghost use Rattle.ummervia.specs.Outcome.{outcome};
+ghost use Rattle.looking.specs.Outcome.{outcome};
 ghost use Rattle.ummervia.specs.Receiving.{gatherInto, takeInto, finishInto};
 ghost use Rattle.ummervia.specs.Listening.{heardAnswer, numbers, heardNumbers, linkAnswer, linkMade};
 use crate::finishing::finish;

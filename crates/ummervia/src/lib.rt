@@ -6,7 +6,6 @@ pub mod exports_home;
 pub mod finishing;
 pub mod flat;
 pub mod listening;
-pub mod looking;
 pub mod name;
 pub mod part;
 pub mod receiving;

@@ -7,9 +7,6 @@ ghost use Rattle.ummervia.specs.Listened.{missing, askedFor, unheard, li
 ghost use Rattle.ummervia.specs.Listening.{heardAnswer, linkAnswer};
 use crate::HeardAnswer;
 use crate::LinkAnswer;
-use crate::asking::absent;
-use crate::looking::look_soft;
-use crate::looking::open_frame;
 use counters::BitNumber;
 use counters::FrameNumber;
 use counters::TrchNumber;
@@ -18,6 +15,9 @@ use homing::receiving::Reception;
 use homing::receiving::receive;
 use joining::Heard;
 use joining::linking::Link;
+use looking::absent;
+use looking::look_soft;
+use looking::open_frame;
 use opening::Opened;
 use opening::capacity;
 

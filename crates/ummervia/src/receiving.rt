@@ -1,15 +1,15 @@
 // A received frame comes home: gathered, or taken back into a buffer of all T_i.
 ghost use mathlib.Core.Path.{_≡_};
-ghost use Rattle.ummervia.specs.Outcome.{outcome};
+ghost use Rattle.looking.specs.Outcome.{outcome};
 ghost use Rattle.ummervia.specs.Receiving.{gatherInto, takeInto};
-use crate::looking::look_soft;
-use crate::looking::open_frame;
 use counters::Answer;
 use counters::FrameNumber;
 use homing::gathering::gather_values;
 use homing::receiving::Asked;
 use homing::receiving::receive;
 use homing::taking::count_taken;
+use looking::look_soft;
+use looking::open_frame;
 use opening::capacity;
 use opening::open_sheet;
 use sheet::counts::MOST_BITS;

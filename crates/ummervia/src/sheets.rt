@@ -2,7 +2,7 @@
 ghost use mathlib.Core.Path.{_≡_};
 ghost use Rattle.sheet.specs.Numbers.{readAnswer};
 ghost use Rattle.writing.specs.Written.{lengthAnswer};
-ghost use Rattle.ummervia.specs.Outcome.{outcome};
+ghost use Rattle.looking.specs.Outcome.{outcome};
 ghost use Rattle.ummervia.specs.Sheets.{writeInto};
 use counters::Answer;
 use sheet::Sheet;

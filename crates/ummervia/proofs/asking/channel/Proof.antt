@@ -2,7 +2,8 @@ use native.Mathlib.Omega.{arith}
 use mathlib.Core.Path.{sym, ap, _∙_}
 use Rattle.opening.proofs.OpenLaws.{opens}
 use Rattle.ummervia.specs.Asking.{channelIn}
-use Rattle.ummervia.proofs.AskLaws.{trch-there, channel-no, channel-absent, channel-yes}
+use Rattle.looking.proofs.LookLaws.{trch-there}
+use Rattle.ummervia.proofs.AskLaws.{channel-no, channel-absent, channel-yes}
 use borrow.Author.Needs.{needs}
 use Rattle.ummervia.proofs.asking.channel.Statement.{statement}
 use Rattle.ummervia.proofs.asking.channel.Tie as tie

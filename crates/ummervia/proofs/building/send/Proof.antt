@@ -13,8 +13,8 @@ use Rattle.frame.specs.Bit.{isBit}
 use Rattle.frame.specs.Frame.{multiplexedBits, bitFrame}
 use Rattle.frame.proofs.RoomLaws.{segments-of}
 use Rattle.ummervia.specs.Building.{buildInto, multiplexInto}
-use Rattle.ummervia.specs.Looking.{lastFrame, frameLines}
-use Rattle.ummervia.proofs.LookLaws.{begun-opens, look-long, early-frame, leaves-early, leaves-looked, leaves-written}
+use Rattle.looking.specs.Looking.{lastFrame, frameLines}
+use Rattle.looking.proofs.LookLaws.{begun-opens, look-long, early-frame, leaves-early, leaves-looked, leaves-written}
 use borrow.Author.Needs.{needs}
 use Rattle.ummervia.proofs.building.send.Statement.{statement}
 use Rattle.ummervia.proofs.building.send.Tie as tie

@@ -11,7 +11,7 @@ use Rattle.opening.proofs.OpenLaws.{opens, capacity-most}
 use Rattle.frame.proofs.RoomLaws.{room-part}
 use Rattle.frame.specs.Bit.{isBit}
 use Rattle.frame.specs.Frame.{spread}
-use Rattle.ummervia.proofs.LookLaws.{begun-sheet, look-long, early-read, leaves-early, leaves-looked, leaves-written}
+use Rattle.looking.proofs.LookLaws.{begun-sheet, look-long, early-read, leaves-early, leaves-looked, leaves-written}
 use borrow.Author.Needs.{needs}
 use Rattle.ummervia.proofs.building.spread.Statement.{statement}
 use Rattle.ummervia.proofs.building.spread.Tie as tie

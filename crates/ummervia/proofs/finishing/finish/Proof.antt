@@ -9,8 +9,8 @@ use Rattle.opening.specs.Opened.{Opens}
 use Rattle.opening.specs.declared.OpenAnswer.{OpenAnswer}
 use Rattle.opening.proofs.OpenLaws.{opens}
 use Rattle.homing.specs.Home.{finishedOf}
-use Rattle.ummervia.specs.Asking.{noTrch}
-use Rattle.ummervia.proofs.AskLaws.{trch-there}
+use Rattle.looking.specs.Looking.{noTrch}
+use Rattle.looking.proofs.LookLaws.{trch-there}
 use Rattle.ummervia.proofs.FinishLaws.{finish-no, finish-absent, finish-buffer, finish-room, finish-yes}
 use borrow.Author.Needs.{needs}
 use Rattle.ummervia.proofs.finishing.finish.Statement.{statement}

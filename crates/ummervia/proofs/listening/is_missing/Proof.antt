@@ -5,8 +5,8 @@ use Prim.Native.Nat.{ℕ, _-_, _<_}
 use borrow.Author.Tests.{not-true, not-false}
 use lib.ListN.{getD}
 use Rattle.opening.proofs.OpenLaws.{size-is}
-use Rattle.ummervia.specs.Asking.{noTrch}
-use Rattle.ummervia.proofs.AskLaws.{trch-there}
+use Rattle.looking.specs.Looking.{noTrch}
+use Rattle.looking.proofs.LookLaws.{trch-there}
 use Rattle.ummervia.proofs.ListenLaws.{missing-trch, missing-none, missing-zero, missing-past}
 use borrow.Author.Needs.{needs}
 use Rattle.ummervia.proofs.listening.is_missing.Statement.{statement}

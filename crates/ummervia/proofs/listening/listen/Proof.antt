@@ -8,9 +8,9 @@ use Rattle.opening.specs.declared.OpenAnswer.{OpenAnswer}
 use Rattle.joining.specs.Range.{inRange}
 use Rattle.homing.specs.Receiving.{Askable}
 use Rattle.homing.specs.declared.receiving.Asked.{Asked}
-use Rattle.ummervia.specs.Looking.{lastFrame}
+use Rattle.looking.specs.Looking.{lastFrame}
 use Rattle.ummervia.specs.Listened.{missing}
-use Rattle.ummervia.proofs.LookLaws.{begun-opens, look-long}
+use Rattle.looking.proofs.LookLaws.{begun-opens, look-long}
 use Rattle.ummervia.proofs.ListenLaws.{found-trch, found-bit, askable, listen-no, listen-missing, listen-looked, listen-yes}
 use borrow.Author.Needs.{needs}
 use Rattle.ummervia.proofs.listening.listen.Statement.{statement}

@@ -6,8 +6,8 @@ use Rattle.counters.specs.Lines.{line}
 use Rattle.opening.specs.Opened.{Opens}
 use Rattle.opening.specs.declared.OpenAnswer.{OpenAnswer}
 use Rattle.naming.proofs.ExistLaws.{exists}
-use Rattle.ummervia.specs.Looking.{lastFrame, frameLines, Begun}
-use Rattle.ummervia.proofs.LookLaws.{begun-no, begun-late, begun-yes, begun-opens}
+use Rattle.looking.specs.Looking.{lastFrame, frameLines, Begun}
+use Rattle.looking.proofs.LookLaws.{begun-no, begun-late, begun-yes, begun-opens}
 use Rattle.ummervia.proofs.NameLaws.{name-no, name-absent, name-yes}
 use borrow.Author.Needs.{needs}
 use Rattle.ummervia.proofs.name.name.Statement.{statement}

@@ -4,9 +4,9 @@ use mathlib.Core.Bool.{false}
 use Prim.Native.Nat.{ℕ, _-_, _<_}
 use Rattle.opening.specs.declared.OpenAnswer.{OpenAnswer}
 use Rattle.opening.proofs.OpenLaws.{opens}
-use Rattle.ummervia.specs.Asking.{noTrch}
+use Rattle.looking.specs.Looking.{noTrch}
 use Rattle.ummervia.specs.Part.{partIn}
-use Rattle.ummervia.proofs.AskLaws.{trch-there}
+use Rattle.looking.proofs.LookLaws.{trch-there}
 use Rattle.ummervia.proofs.PartLaws.{part-no, part-absent, part-misfit, part-yes}
 use borrow.Author.Needs.{needs}
 use Rattle.ummervia.proofs.part.part.Statement.{statement}

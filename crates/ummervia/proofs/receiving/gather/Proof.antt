@@ -12,7 +12,7 @@ use Rattle.opening.proofs.OpenLaws.{opens, capacity-most}
 use Rattle.frame.proofs.RoomLaws.{room-part}
 use Rattle.joining.specs.Range.{inRange}
 use Rattle.homing.specs.Gather.{gathered}
-use Rattle.ummervia.proofs.LookLaws.{begun-sheet, look-long, early-read, leaves-early, leaves-looked, leaves-written}
+use Rattle.looking.proofs.LookLaws.{begun-sheet, look-long, early-read, leaves-early, leaves-looked, leaves-written}
 use borrow.Author.Needs.{needs}
 use Rattle.ummervia.proofs.receiving.gather.Statement.{statement}
 use Rattle.ummervia.proofs.receiving.gather.Tie as tie

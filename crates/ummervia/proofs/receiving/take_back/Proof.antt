@@ -12,8 +12,8 @@ use Rattle.joining.specs.Range.{inRange}
 use Rattle.homing.specs.Home.{takenBack, takenCount}
 use Rattle.homing.specs.Receiving.{Askable, receivedInto}
 use Rattle.homing.proofs.ReceiveLaws.{taken-back}
-use Rattle.ummervia.specs.Looking.{lastFrame, frameLines}
-use Rattle.ummervia.proofs.LookLaws.{begun-opens, look-long, early-frame, leaves-early, leaves-looked, leaves-written}
+use Rattle.looking.specs.Looking.{lastFrame, frameLines}
+use Rattle.looking.proofs.LookLaws.{begun-opens, look-long, early-frame, leaves-early, leaves-looked, leaves-written}
 use borrow.Author.Needs.{needs}
 use Rattle.ummervia.proofs.receiving.take_back.Statement.{statement}
 use Rattle.ummervia.proofs.receiving.take_back.Tie as tie

@@ -1,8 +1,8 @@
 use Rattle.frame.specs.Bit.{isBit}
-use Rattle.ummervia.proofs.LookLaws.{look-short, look-narrow, look-bad, look-good}
+use Rattle.looking.proofs.LookLaws.{look-short, look-narrow, look-bad, look-good}
 use borrow.Author.Needs.{needs}
-use Rattle.ummervia.proofs.looking.look.Statement.{statement}
-use Rattle.ummervia.proofs.looking.look.Tie as tie
+use Rattle.looking.proofs.look.Statement.{statement}
+use Rattle.looking.proofs.look.Tie as tie
 
 returns : tie.Need-returns
 returns c =

@@ -1,7 +1,7 @@
-use Rattle.ummervia.proofs.LookLaws.{begun-no, begun-late, begun-yes}
+use Rattle.looking.proofs.LookLaws.{begun-no, begun-late, begun-yes}
 use borrow.Author.Needs.{needs}
-use Rattle.ummervia.proofs.looking.open_frame.Statement.{statement}
-use Rattle.ummervia.proofs.looking.open_frame.Tie as tie
+use Rattle.looking.proofs.open_frame.Statement.{statement}
+use Rattle.looking.proofs.open_frame.Tie as tie
 
 open-sheet-requires : tie.Need-open-sheet-requires
 open-sheet-requires c κs = search needs

@@ -1,4 +1,4 @@
--- The lines 9, 11 and 12 of the table of numbers, and what a call leaves that looks at lent values before it writes others.
+-- The lines 9 to 12 of the table of numbers, and what a call leaves that looks at lent values before it writes others.
 use mathlib.Core.Path.{_≡_}
 use mathlib.Core.Bool.{Bool, not, _||_, cond}
 use mathlib.Core.List.{List, [], _∷_, _++_}
@@ -10,9 +10,10 @@ use Rattle.counters.specs.Lines.{Line, line, firstOf, given}
 use Rattle.counters.specs.declared.Answer.{Answer}
 use Rattle.sheet.specs.Fields.{sheetOf}
 use Rattle.sheet.specs.Numbers.{readLines}
+use Rattle.sheet.specs.declared.Sheet.{Sheet}
 use Rattle.opening.specs.Opened.{openedOf}
 use Rattle.opening.specs.declared.OpenAnswer.{OpenAnswer}
-use Rattle.ummervia.specs.Outcome.{Outcome, outcome}
+use Rattle.looking.specs.Outcome.{Outcome, outcome}
 
 -- 9: frame number over 255
 abbrev pub lastFrame : ℕ
@@ -20,6 +21,10 @@ lastFrame = 255
 
 abbrev pub frameLines : List ℕ → ℕ → List Line
 frameLines s frame = readLines s ++ line (ltb lastFrame frame) 9 ∷ []
+
+-- 10: TrCH k, counted from 1, does not exist
+abbrev pub noTrch : Sheet → ℕ → Bool
+noTrch sh k = eqb k 0 || ltb (sh .channels) k
 
 -- 11: a lent buffer is not exactly of the length needed
 abbrev pub notLong : ℕ → ℕ → Bool

@@ -1,7 +1,7 @@
-use Rattle.ummervia.proofs.AskLaws.{trch-zero, trch-past}
+use Rattle.looking.proofs.LookLaws.{trch-zero, trch-past}
 use borrow.Author.Needs.{needs}
-use Rattle.ummervia.proofs.asking.absent.Statement.{statement}
-use Rattle.ummervia.proofs.asking.absent.Tie as tie
+use Rattle.looking.proofs.absent.Statement.{statement}
+use Rattle.looking.proofs.absent.Tie as tie
 
 returns : tie.Need-returns
 returns c = trch-zero (c .before .before .args .fields) _ (c .if1 .taken)

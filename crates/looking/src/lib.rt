@@ -1,14 +1,17 @@
-// What several calls ask first: the sheet, the frame number, the lengths, and that the bytes lent are bits.
+// What several calls ask first: the sheet, the frame number, the channel, the lengths, and that the values lent are bits or in range.
 ghost use mathlib.Core.Path.{_≡_};
 ghost use Rattle.frame.specs.Bit.{isBit};
 ghost use Rattle.joining.specs.Range.{inRange};
-ghost use Rattle.ummervia.specs.Looking.{frameLines, lookAnswer, Begun};
+ghost use Rattle.looking.specs.Looking.{frameLines, noTrch, lookAnswer, Begun};
 use counters::Answer;
 use counters::FrameNumber;
+use counters::TrchNumber;
 use frame::checking::first_bad;
 use joining::checking::first_out;
 use opening::OpenAnswer;
 use opening::open_sheet;
+use sheet::Sheet;
+use sheet::wide;
 
 pub const LAST_FRAME: u32 = 255;
 
@@ -25,6 +28,16 @@ pub fn open_frame(bytes: &[u8], frame: FrameNumber) -> OpenAnswer
         }
     }
     OpenAnswer { number, opened }
+}
+
+// Number 10: whether TrCH k, counted from 1, does not exist.
+pub fn absent(fields: Sheet, trch: TrchNumber) -> bool
+    ensures { λ r. ⌜ r ≡ noTrch fields (trch .0) ⌝ }
+{
+    if trch.0 == 0 {
+        return true;
+    }
+    wide(fields.channels) < trch.0 as u64
 }
 
 // Numbers 11 and 12: `needed` bits are lent, `room` places in a buffer of n.

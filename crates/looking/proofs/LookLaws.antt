@@ -2,9 +2,9 @@
 use mathlib.Core.Path.{_≡_, refl, sym, ap, ap₂, _∙_, subst}
 use mathlib.Core.Bool.{Bool, true, false, not, _||_, cond}
 use mathlib.Core.List.{List, [], _∷_, _++_}
-use Prim.Native.Nat.{ℕ, zero, suc, _≤_, _<_}
+use Prim.Native.Nat.{ℕ, zero, suc, _-_, _≤_, _<_}
 use native.Mathlib.Omega.{arith}
-use borrow.Author.Tests.{eq-eqb, ne-eqb, lt-ltb, le-ltb, eqb-true, not-false}
+use borrow.Author.Tests.{eq-eqb, ne-eqb, lt-ltb, le-ltb, eqb-true, eqb-false, ltb-false, not-false}
 use lib.Dec.{eqb, ltb, lit<}
 use lib.ListN.{length}
 use Rattle.laws.specs.FirstFail.{firstFail}
@@ -20,8 +20,8 @@ use Rattle.opening.specs.Opened.{openAnswer, Opens}
 use Rattle.opening.specs.declared.OpenAnswer.{OpenAnswer}
 use Rattle.opening.specs.declared.Opened.{Opened}
 use Rattle.opening.proofs.OpenLaws.{number-open, opened-is, accepted-in}
-use Rattle.ummervia.specs.Outcome.{outcome}
-use Rattle.ummervia.specs.Looking.{lastFrame, frameLines, notLong, lookLines, indexed, lookAnswer, looked, Begun}
+use Rattle.looking.specs.Outcome.{outcome}
+use Rattle.looking.specs.Looking.{lastFrame, frameLines, noTrch, notLong, lookLines, indexed, lookAnswer, looked, Begun}
 
 -- ---- the sheet opened, and the frame number
 
@@ -49,6 +49,21 @@ module _ (s : List ℕ) (frame : ℕ) (a : OpenAnswer) (e : a ≡ openAnswer s) 
         number = z ∙ last-clear (ltb lastFrame frame) 9 (read-numbered s) (sym (number-open s a e) ∙ z) (le-ltb lastFrame frame h);
         opened = opened-is s a e;
       }
+
+-- ---- a channel by its number
+
+-- TrCH k is there, or is not
+pub trch-zero : (sh : Sheet) (k : ℕ) → k ≡ 0 → true ≡ noTrch sh k
+trch-zero sh k e = sym (ap (λ (b : Bool). b || ltb (sh .channels) k) (eq-eqb k 0 e))
+
+pub trch-past : (sh : Sheet) (k : ℕ) {x : ℕ} → x ≡ sh .channels → (k ≡ 0 → ⊥) → ltb x k ≡ noTrch sh k
+trch-past sh k e z = ap (λ (y : ℕ). ltb y k) e ∙ sym (ap (λ (b : Bool). b || ltb (sh .channels) k) (ne-eqb k 0 z))
+
+pub trch-there : (sh : Sheet) (k : ℕ) → noTrch sh k ≡ false → (0 < k) × (k - 1 < sh .channels)
+trch-there sh k h =
+    let a : k ≡ 0 → ⊥ = eqb-false k 0 (or-left _ (ltb (sh .channels) k) h) in
+    let b : k ≤ sh .channels = ltb-false (sh .channels) k (or-right (eqb k 0) _ h) in
+    (omega arith, omega arith)
 
 -- ---- the lent values
 

@@ -1,8 +1,8 @@
 use Rattle.joining.specs.Range.{inRange}
-use Rattle.ummervia.proofs.LookLaws.{look-short, look-narrow, look-bad, look-good}
+use Rattle.looking.proofs.LookLaws.{look-short, look-narrow, look-bad, look-good}
 use borrow.Author.Needs.{needs}
-use Rattle.ummervia.proofs.looking.look_soft.Statement.{statement}
-use Rattle.ummervia.proofs.looking.look_soft.Tie as tie
+use Rattle.looking.proofs.look_soft.Statement.{statement}
+use Rattle.looking.proofs.look_soft.Tie as tie
 
 returns : tie.Need-returns
 returns c =

@@ -3,7 +3,7 @@ use mathlib.Core.Path.{_≡_, sym, _∙_}
 use mathlib.Core.List.{List}
 use Prim.Native.Nat.{ℕ}
 use Rattle.counters.proofs.LineLaws.{given-yes, given-no}
-use Rattle.ummervia.specs.Outcome.{outcome, wrote}
+use Rattle.looking.specs.Outcome.{outcome, wrote}
 
 module _ {A : Type 0} where
   made : {n m a b : ℕ} {x y : List A} → n ≡ m → a ≡ b → x ≡ y → outcome n a x ≡ outcome m b y

@@ -1,0 +1,2 @@
+pub mod OutcomeLaws
+pub mod LookLaws
