@@ -17,7 +17,7 @@ use sheet::counts::CODES;
 use ummervia::build;
 use ummervia::channel;
 use ummervia::finish;
-use ummervia::name::name;
+use ummervia::name;
 use ummervia::sheet_read;
 use ummervia::take_back;
 

@@ -1,9 +1,6 @@
-pub mod AskLaws
 pub mod FlatLaws
 pub mod SheetLaws
 pub mod ThereAndBack
-pub mod PartLaws
-pub mod NameLaws
 pub mod FinishLaws
 pub mod ListenLaws
 pub mod Unique

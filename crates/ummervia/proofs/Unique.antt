@@ -11,15 +11,15 @@ use Rattle.sheet.specs.declared.SheetAnswer.{SheetAnswer}
 use Rattle.writing.specs.Written.{lengthAnswer}
 use Rattle.looking.specs.Outcome.{Outcome}
 use Rattle.ummervia.specs.Sheets.{readInto, writeInto, lengthFrom, writeFrom}
-use Rattle.ummervia.specs.Asking.{sizesAnswer, channelAnswer}
+use Rattle.asking.specs.Asking.{sizesAnswer, channelAnswer}
 use Rattle.ummervia.specs.Building.{buildInto, multiplexInto, spreadInto}
-use Rattle.ummervia.specs.Naming.{Naming, nameAnswer}
-use Rattle.ummervia.specs.Part.{partAnswer, partOf}
+use Rattle.asking.specs.Naming.{Naming, nameAnswer}
+use Rattle.asking.specs.Part.{partAnswer, partOf}
 use Rattle.ummervia.specs.Receiving.{gatherInto, takeInto, finishInto}
 use Rattle.ummervia.specs.Listening.{heardAnswer, Numbers, heardNumbers, linkAnswer}
-use Rattle.ummervia.specs.declared.SizesAnswer.{SizesAnswer}
-use Rattle.ummervia.specs.declared.ChannelAnswer.{ChannelAnswer}
-use Rattle.ummervia.specs.declared.PartAnswer.{PartAnswer}
+use Rattle.asking.specs.declared.SizesAnswer.{SizesAnswer}
+use Rattle.asking.specs.declared.ChannelAnswer.{ChannelAnswer}
+use Rattle.asking.specs.declared.part.PartAnswer.{PartAnswer}
 use Rattle.ummervia.specs.declared.HeardAnswer.{HeardAnswer}
 use Rattle.ummervia.specs.declared.LinkAnswer.{LinkAnswer}
 

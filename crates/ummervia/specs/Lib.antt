@@ -1,9 +1,6 @@
 pub mod Flat
 pub mod Sheets
-pub mod Asking
 pub mod Building
-pub mod Part
-pub mod Naming
 pub mod Receiving
 pub mod Listening
 pub mod Listened
