@@ -12,7 +12,7 @@ use Rattle.writing.specs.Written.{lengthAnswer}
 use Rattle.looking.specs.Outcome.{Outcome}
 use Rattle.ummervia.specs.Sheets.{readInto, writeInto, lengthFrom, writeFrom}
 use Rattle.asking.specs.Asking.{sizesAnswer, channelAnswer}
-use Rattle.ummervia.specs.Building.{buildInto, multiplexInto, spreadInto}
+use Rattle.sending.specs.Building.{buildInto, multiplexInto, spreadInto}
 use Rattle.asking.specs.Naming.{Naming, nameAnswer}
 use Rattle.asking.specs.Part.{partAnswer, partOf}
 use Rattle.ummervia.specs.Receiving.{gatherInto, takeInto, finishInto}

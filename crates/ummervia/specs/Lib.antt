@@ -1,6 +1,5 @@
 pub mod Flat
 pub mod Sheets
-pub mod Building
 pub mod Receiving
 pub mod Listening
 pub mod Listened

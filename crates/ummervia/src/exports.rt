@@ -2,13 +2,10 @@
 ghost use mathlib.Core.Path.{_≡_};
 ghost use Rattle.looking.specs.Outcome.{outcome};
 ghost use Rattle.ummervia.specs.Sheets.{readInto, answerMade, lengthFrom, writeFrom};
-ghost use Rattle.ummervia.specs.Building.{buildInto, multiplexInto, spreadInto};
+ghost use Rattle.sending.specs.Building.{buildInto, multiplexInto, spreadInto};
 ghost use Rattle.asking.specs.Naming.{nameLeft, nameAnswer};
 ghost use Rattle.asking.specs.Part.{partMade, partAnswer};
 ghost use Rattle.asking.specs.Asking.{sizesMade, sizesAnswer, channelMade, channelAnswer};
-use crate::building::build;
-use crate::building::multiplex;
-use crate::building::spread;
 use crate::flat::FLAT;
 use crate::flat::lay_sheet;
 use crate::flat::take_sheet;
@@ -22,6 +19,9 @@ use asking::sizes;
 use counters::FrameNumber;
 use counters::PhchNumber;
 use counters::TrchNumber;
+use sending::build;
+use sending::multiplex;
+use sending::spread;
 
 #[no_mangle]
 pub extern "C" fn umv_sheet_read(bytes: &[u8], fields: &mut [u16], at: &mut u64) -> u32

@@ -1,5 +1,4 @@
 // The public calls: each takes all inputs, asks its refusals in the order of document 01's table, and calls what stands below.
-pub mod building;
 pub mod exports;
 pub mod exports_home;
 pub mod finishing;
@@ -8,9 +7,6 @@ pub mod listening;
 pub mod receiving;
 pub mod sheets;
 
-pub use crate::building::build;
-pub use crate::building::multiplex;
-pub use crate::building::spread;
 pub use crate::finishing::finish;
 pub use crate::listening::heard;
 pub use crate::listening::link;
@@ -31,6 +27,9 @@ pub use asking::part::part_soft;
 pub use asking::sizes;
 use joining::Heard;
 use joining::linking::Link;
+pub use sending::build;
+pub use sending::multiplex;
+pub use sending::spread;
 
 // What was heard of a bit, nothing where the number is not 0; with number 12 `at` is the index of the first bad value.
 pub struct HeardAnswer {

@@ -1,7 +1,7 @@
 // A frame is built: steps 1 to 9, or 1 to 7, or 8 and 9.
 ghost use mathlib.Core.Path.{_≡_};
 ghost use Rattle.looking.specs.Outcome.{outcome};
-ghost use Rattle.ummervia.specs.Building.{buildInto, multiplexInto, sendInto, spreadInto};
+ghost use Rattle.sending.specs.Building.{buildInto, multiplexInto, sendInto, spreadInto};
 use counters::Answer;
 use counters::FrameNumber;
 use frame::building::build_bits;

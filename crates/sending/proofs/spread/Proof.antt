@@ -13,8 +13,8 @@ use Rattle.frame.specs.Bit.{isBit}
 use Rattle.frame.specs.Frame.{spread}
 use Rattle.looking.proofs.LookLaws.{begun-sheet, look-long, early-read, leaves-early, leaves-looked, leaves-written}
 use borrow.Author.Needs.{needs}
-use Rattle.ummervia.proofs.building.spread.Statement.{statement}
-use Rattle.ummervia.proofs.building.spread.Tie as tie
+use Rattle.sending.proofs.spread.Statement.{statement}
+use Rattle.sending.proofs.spread.Tie as tie
 
 -- the sheet is opened
 module _ (c : tie.After-opened) where

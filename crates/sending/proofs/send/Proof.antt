@@ -12,12 +12,12 @@ use Rattle.opening.specs.declared.OpenAnswer.{OpenAnswer}
 use Rattle.frame.specs.Bit.{isBit}
 use Rattle.frame.specs.Frame.{multiplexedBits, bitFrame}
 use Rattle.frame.proofs.RoomLaws.{segments-of}
-use Rattle.ummervia.specs.Building.{buildInto, multiplexInto}
+use Rattle.sending.specs.Building.{buildInto, multiplexInto}
 use Rattle.looking.specs.Looking.{lastFrame, frameLines}
 use Rattle.looking.proofs.LookLaws.{begun-opens, look-long, early-frame, leaves-early, leaves-looked, leaves-written}
 use borrow.Author.Needs.{needs}
-use Rattle.ummervia.proofs.building.send.Statement.{statement}
-use Rattle.ummervia.proofs.building.send.Tie as tie
+use Rattle.sending.proofs.send.Statement.{statement}
+use Rattle.sending.proofs.send.Tie as tie
 
 -- a refusal is the same of both
 module _ {A : Type 0} {x : A} where
