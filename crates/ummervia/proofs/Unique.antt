@@ -15,13 +15,13 @@ use Rattle.asking.specs.Asking.{sizesAnswer, channelAnswer}
 use Rattle.sending.specs.Building.{buildInto, multiplexInto, spreadInto}
 use Rattle.asking.specs.Naming.{Naming, nameAnswer}
 use Rattle.asking.specs.Part.{partAnswer, partOf}
-use Rattle.ummervia.specs.Receiving.{gatherInto, takeInto, finishInto}
-use Rattle.ummervia.specs.Listening.{heardAnswer, Numbers, heardNumbers, linkAnswer}
+use Rattle.receiving.specs.Receiving.{gatherInto, takeInto, finishInto}
+use Rattle.receiving.specs.Listening.{heardAnswer, Numbers, heardNumbers, linkAnswer}
 use Rattle.asking.specs.declared.SizesAnswer.{SizesAnswer}
 use Rattle.asking.specs.declared.ChannelAnswer.{ChannelAnswer}
 use Rattle.asking.specs.declared.part.PartAnswer.{PartAnswer}
-use Rattle.ummervia.specs.declared.HeardAnswer.{HeardAnswer}
-use Rattle.ummervia.specs.declared.LinkAnswer.{LinkAnswer}
+use Rattle.receiving.specs.declared.listening.HeardAnswer.{HeardAnswer}
+use Rattle.receiving.specs.declared.listening.LinkAnswer.{LinkAnswer}
 
 only : {A : Type 0} {x y : A} (z : A) → x ≡ z → y ≡ z → x ≡ y
 only z p q = p ∙ sym q

@@ -1,5 +1,2 @@
 pub mod Flat
 pub mod Sheets
-pub mod Receiving
-pub mod Listening
-pub mod Listened

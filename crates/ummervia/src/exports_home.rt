@@ -1,17 +1,17 @@
 // The calls that bring soft values home, as C has them: see exports.rt.
 ghost use mathlib.Core.Path.{_≡_};
 ghost use Rattle.looking.specs.Outcome.{outcome};
-ghost use Rattle.ummervia.specs.Receiving.{gatherInto, takeInto, finishInto};
-ghost use Rattle.ummervia.specs.Listening.{heardAnswer, numbers, heardNumbers, linkAnswer, linkMade};
-use crate::finishing::finish;
-use crate::listening::heard;
-use crate::listening::link;
-use crate::receiving::gather;
-use crate::receiving::take_back;
+ghost use Rattle.receiving.specs.Receiving.{gatherInto, takeInto, finishInto};
+ghost use Rattle.receiving.specs.Listening.{heardAnswer, numbers, heardNumbers, linkAnswer, linkMade};
 use counters::BitNumber;
 use counters::FrameNumber;
 use counters::TrchNumber;
 use joining::Heard;
+use receiving::finishing::finish;
+use receiving::gather;
+use receiving::listening::heard;
+use receiving::listening::link;
+use receiving::take_back;
 
 #[no_mangle]
 pub extern "C" fn umv_gather(

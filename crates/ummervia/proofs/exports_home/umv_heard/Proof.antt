@@ -1,7 +1,7 @@
 use mathlib.Core.Path.{refl}
 use lib.Ieee.{ofBits}
 use Rattle.joining.specs.Joining.{valueOf, countOf}
-use Rattle.ummervia.proofs.ListenLaws.{numbers-of}
+use Rattle.receiving.proofs.ListenLaws.{numbers-of}
 use borrow.Author.Needs.{needs}
 use Rattle.ummervia.proofs.exports_home.umv_heard.Statement.{statement}
 use Rattle.ummervia.proofs.exports_home.umv_heard.Tie as tie
