@@ -11,8 +11,8 @@ use Rattle.sheet.specs.declared.Sheet.{Sheet}
 use Rattle.opening.specs.declared.OpenAnswer.{OpenAnswer}
 use Rattle.naming.specs.Name.{Name, nameOf, hasPlace}
 use Rattle.looking.specs.Looking.{frameLines, Begun}
-use Rattle.asking.specs.Naming.{named, noName, nameNumber, nameAnswer}
 use Rattle.looking.proofs.LookLaws.{early-numbered, early-frame, begun-fields}
+use Rattle.asking.specs.Naming.{named, noName, nameNumber, nameAnswer}
 
 module _ (s : List ℕ) (frame : ℕ) (a : OpenAnswer) (b : Begun s (frameLines s frame) a) (slot phch place : ℕ) where
   abbrev found : Name

@@ -21,9 +21,9 @@ use Rattle.opening.specs.Opened.{openAnswer}
 use Rattle.opening.specs.declared.OpenAnswer.{OpenAnswer}
 use Rattle.opening.proofs.OpenLaws.{number-open, fields-open, accepted-in, weighs}
 use Rattle.looking.specs.Looking.{noTrch, notLong}
+use Rattle.looking.proofs.LookLaws.{trch-there}
 use Rattle.asking.specs.Part.{partIn, noPart, partNumber, partAnswer, partOf}
 use Rattle.asking.specs.declared.part.PartAnswer.{PartAnswer}
-use Rattle.looking.proofs.LookLaws.{trch-there}
 
 pub part-same : (sh : Sheet) (i : ℕ) {x y : ℕ} → x ≡ cutOf sh i → y ≡ shareOf sh i
     → _≡_ {A = PartAnswer} (record { number = 0; start = x; length = y }) (partIn sh i)

@@ -1,4 +1,4 @@
-// What a sheet's numbers are: its sizes, and those of one channel.
+// What a sheet's numbers are: its sizes, and those of one channel. A part and a name are asked for in the modules.
 ghost use mathlib.Core.Path.{_≡_};
 ghost use Prim.Native.Nat.{_<_};
 ghost use Rattle.opening.specs.Opened.{Opens};

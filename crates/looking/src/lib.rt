@@ -1,7 +1,7 @@
 // What several calls ask first: the sheet, the frame number, the channel, the lengths, and that the values lent are bits or in range.
 ghost use mathlib.Core.Path.{_≡_};
-ghost use Rattle.frame.specs.Bit.{isBit};
 ghost use Rattle.joining.specs.Range.{inRange};
+ghost use Rattle.frame.specs.Bit.{isBit};
 ghost use Rattle.looking.specs.Looking.{frameLines, noTrch, lookAnswer, Begun};
 use counters::Answer;
 use counters::FrameNumber;

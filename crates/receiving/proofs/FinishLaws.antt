@@ -16,19 +16,19 @@ use Rattle.sheet.specs.Numbers.{readLines}
 use Rattle.sheet.specs.Range.{Ranged}
 use Rattle.sheet.specs.declared.Sheet.{Sheet}
 use Rattle.sheet.proofs.NumberLaws.{read-numbered}
-use Rattle.opening.specs.Opened.{openAnswer}
-use Rattle.opening.specs.declared.OpenAnswer.{OpenAnswer}
-use Rattle.opening.proofs.OpenLaws.{number-open, fields-open}
 use Rattle.orders.proofs.OrderLaws.{frames-bounds}
 use Rattle.interleaving.specs.First.{finished, Finishing}
 use Rattle.interleaving.proofs.EqualisedLaws.{segments-hold}
+use Rattle.opening.specs.Opened.{openAnswer}
+use Rattle.opening.specs.declared.OpenAnswer.{OpenAnswer}
+use Rattle.opening.proofs.OpenLaws.{number-open, fields-open}
 use Rattle.frame.proofs.SpreadLaws.{part-length}
 use Rattle.homing.specs.Home.{channelStart, finishedOf}
 use Rattle.looking.specs.Looking.{noTrch, notLong}
 use Rattle.looking.specs.Outcome.{outcome}
-use Rattle.receiving.specs.Receiving.{finishLines, finishInto}
 use Rattle.looking.proofs.LookLaws.{either-left, either-right, both-clear}
 use Rattle.looking.proofs.OutcomeLaws.{wrote-no, wrote-yes}
+use Rattle.receiving.specs.Receiving.{finishLines, finishInto}
 
 -- ---- the channel's part, which begins at a and has u values
 

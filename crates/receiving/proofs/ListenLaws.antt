@@ -14,11 +14,11 @@ use Rattle.counters.proofs.LineLaws.{clear-of, append-clear, last-holds, last-c
 use Rattle.sheet.specs.Fields.{sheetOf}
 use Rattle.sheet.specs.Sizes.{sizeOf, capacityAll}
 use Rattle.sheet.specs.declared.Sheet.{Sheet}
-use Rattle.opening.specs.declared.OpenAnswer.{OpenAnswer}
 use Rattle.joining.specs.Joining.{valueOf, countOf}
 use Rattle.joining.specs.Range.{inRange, firstOut}
 use Rattle.joining.specs.declared.Heard.{Heard}
 use Rattle.joining.specs.declared.linking.Link.{Link}
+use Rattle.opening.specs.declared.OpenAnswer.{OpenAnswer}
 use Rattle.homing.specs.Gather.{gathered}
 use Rattle.homing.specs.Receiving.{Askable, receptionOf}
 use Rattle.homing.specs.declared.receiving.Asked.{Asked}
@@ -26,12 +26,12 @@ use Rattle.homing.specs.declared.receiving.Asked.the-variants.{Bit, Channel}
 use Rattle.homing.specs.declared.receiving.Reception.{Reception}
 use Rattle.homing.proofs.ReceiveLaws.{heard-at, link-in}
 use Rattle.looking.specs.Looking.{frameLines, noTrch, lookLines, indexed, lookAnswer, Begun}
+use Rattle.looking.proofs.LookLaws.{trch-there, Early, early-numbered, early-below, early-more, early-frame, begun-fields, either-left, either-right}
 use Rattle.receiving.specs.Listening.{noBit, heardAnswer, numbers, heardNumbers, linkAnswer}
 use Rattle.receiving.specs.Listened.{missing, listenLines, askedFor, unheard, listenedMade, listenedOf}
 use Rattle.receiving.specs.declared.listening.HeardAnswer.{HeardAnswer}
 use Rattle.receiving.specs.declared.listening.LinkAnswer.{LinkAnswer}
 use Rattle.receiving.specs.declared.listening.Listened.{Listened}
-use Rattle.looking.proofs.LookLaws.{trch-there, Early, early-numbered, early-below, early-more, early-frame, begun-fields, either-left, either-right}
 
 -- ---- what is asked for
 

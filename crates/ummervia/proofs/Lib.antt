@@ -1,4 +1,1 @@
-pub mod FlatLaws
-pub mod SheetLaws
-pub mod ThereAndBack
 pub mod Unique

@@ -10,16 +10,16 @@ use Rattle.sheet.specs.declared.Sheet.{Sheet}
 use Rattle.sheet.specs.declared.SheetAnswer.{SheetAnswer}
 use Rattle.writing.specs.Written.{lengthAnswer}
 use Rattle.looking.specs.Outcome.{Outcome}
-use Rattle.ummervia.specs.Sheets.{readInto, writeInto, lengthFrom, writeFrom}
+use Rattle.sheets.specs.Sheets.{readInto, writeInto, lengthFrom, writeFrom}
 use Rattle.asking.specs.Asking.{sizesAnswer, channelAnswer}
-use Rattle.sending.specs.Building.{buildInto, multiplexInto, spreadInto}
 use Rattle.asking.specs.Naming.{Naming, nameAnswer}
 use Rattle.asking.specs.Part.{partAnswer, partOf}
-use Rattle.receiving.specs.Receiving.{gatherInto, takeInto, finishInto}
-use Rattle.receiving.specs.Listening.{heardAnswer, Numbers, heardNumbers, linkAnswer}
 use Rattle.asking.specs.declared.SizesAnswer.{SizesAnswer}
 use Rattle.asking.specs.declared.ChannelAnswer.{ChannelAnswer}
 use Rattle.asking.specs.declared.part.PartAnswer.{PartAnswer}
+use Rattle.sending.specs.Building.{buildInto, multiplexInto, spreadInto}
+use Rattle.receiving.specs.Receiving.{gatherInto, takeInto, finishInto}
+use Rattle.receiving.specs.Listening.{heardAnswer, Numbers, heardNumbers, linkAnswer}
 use Rattle.receiving.specs.declared.listening.HeardAnswer.{HeardAnswer}
 use Rattle.receiving.specs.declared.listening.LinkAnswer.{LinkAnswer}
 

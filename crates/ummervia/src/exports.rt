@@ -1,17 +1,11 @@
 // The calls as C has them: a slice is a pointer and a length, further answers are written through pointers, on a refusal as zeros.
 ghost use mathlib.Core.Path.{_≡_};
 ghost use Rattle.looking.specs.Outcome.{outcome};
-ghost use Rattle.ummervia.specs.Sheets.{readInto, answerMade, lengthFrom, writeFrom};
-ghost use Rattle.sending.specs.Building.{buildInto, multiplexInto, spreadInto};
+ghost use Rattle.sheets.specs.Sheets.{readInto, answerMade, lengthFrom, writeFrom};
 ghost use Rattle.asking.specs.Naming.{nameLeft, nameAnswer};
 ghost use Rattle.asking.specs.Part.{partMade, partAnswer};
 ghost use Rattle.asking.specs.Asking.{sizesMade, sizesAnswer, channelMade, channelAnswer};
-use crate::flat::FLAT;
-use crate::flat::lay_sheet;
-use crate::flat::take_sheet;
-use crate::sheets::sheet_length;
-use crate::sheets::sheet_read;
-use crate::sheets::sheet_write;
+ghost use Rattle.sending.specs.Building.{buildInto, multiplexInto, spreadInto};
 use asking::channel;
 use asking::name::name;
 use asking::part::part;
@@ -22,6 +16,12 @@ use counters::TrchNumber;
 use sending::build;
 use sending::multiplex;
 use sending::spread;
+use sheets::flat::FLAT;
+use sheets::flat::lay_sheet;
+use sheets::flat::take_sheet;
+use sheets::sheet_length;
+use sheets::sheet_read;
+use sheets::sheet_write;
 
 #[no_mangle]
 pub extern "C" fn umv_sheet_read(bytes: &[u8], fields: &mut [u16], at: &mut u64) -> u32

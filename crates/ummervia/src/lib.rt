@@ -1,13 +1,8 @@
-// The public calls: each takes all inputs, asks its refusals in the order of document 01's table, and calls what stands below.
+// The public calls, by name and as C has them: each takes all inputs and asks its refusals in the order of document 01's table.
 pub mod exports;
 pub mod exports_home;
-pub mod flat;
-pub mod sheets;
 
-// Every call by its name, wherever it stands.
-pub use crate::sheets::sheet_length;
-pub use crate::sheets::sheet_read;
-pub use crate::sheets::sheet_write;
+// Each call and its answer, out of the crate that it stands in.
 pub use asking::ChannelAnswer;
 pub use asking::SizesAnswer;
 pub use asking::channel;
@@ -28,3 +23,6 @@ pub use receiving::take_back;
 pub use sending::build;
 pub use sending::multiplex;
 pub use sending::spread;
+pub use sheets::sheet_length;
+pub use sheets::sheet_read;
+pub use sheets::sheet_write;

@@ -1,8 +1,8 @@
 use native.Mathlib.Omega.{arith}
 use mathlib.Core.Path.{sym, ap, _∙_}
 use Rattle.opening.proofs.OpenLaws.{opens}
-use Rattle.asking.specs.Asking.{channelIn}
 use Rattle.looking.proofs.LookLaws.{trch-there}
+use Rattle.asking.specs.Asking.{channelIn}
 use Rattle.asking.proofs.AskLaws.{channel-no, channel-absent, channel-yes}
 use borrow.Author.Needs.{needs}
 use Rattle.asking.proofs.channel.Statement.{statement}

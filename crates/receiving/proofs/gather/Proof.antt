@@ -6,11 +6,11 @@ use lib.ListN.{length}
 use Rattle.sheet.specs.Counts.{mostBits}
 use Rattle.sheet.specs.Sizes.{capacityAll}
 use Rattle.sheet.specs.Numbers.{readLines}
+use Rattle.joining.specs.Range.{inRange}
 use Rattle.opening.specs.Opened.{Opens}
 use Rattle.opening.specs.declared.OpenAnswer.{OpenAnswer}
 use Rattle.opening.proofs.OpenLaws.{opens, capacity-most}
 use Rattle.frame.proofs.RoomLaws.{room-part}
-use Rattle.joining.specs.Range.{inRange}
 use Rattle.homing.specs.Gather.{gathered}
 use Rattle.looking.proofs.LookLaws.{begun-sheet, look-long, early-read, leaves-early, leaves-looked, leaves-written}
 use borrow.Author.Needs.{needs}

@@ -6,9 +6,9 @@ use lib.ListN.{length}
 use Rattle.counters.specs.Lines.{line}
 use Rattle.sheet.specs.Sizes.{capacityAll, equalisedAll}
 use Rattle.sheet.specs.declared.Sheet.{Sheet}
+use Rattle.joining.specs.Range.{inRange}
 use Rattle.opening.specs.Opened.{Opens}
 use Rattle.opening.specs.declared.OpenAnswer.{OpenAnswer}
-use Rattle.joining.specs.Range.{inRange}
 use Rattle.homing.specs.Home.{takenBack, takenCount}
 use Rattle.homing.specs.Receiving.{Askable, receivedInto}
 use Rattle.homing.proofs.ReceiveLaws.{taken-back}

@@ -5,8 +5,8 @@ use Prim.Native.Nat.{ℕ, _-_, _<_}
 use Rattle.opening.specs.declared.OpenAnswer.{OpenAnswer}
 use Rattle.opening.proofs.OpenLaws.{opens}
 use Rattle.looking.specs.Looking.{noTrch}
-use Rattle.asking.specs.Part.{partIn}
 use Rattle.looking.proofs.LookLaws.{trch-there}
+use Rattle.asking.specs.Part.{partIn}
 use Rattle.asking.proofs.PartLaws.{part-no, part-absent, part-misfit, part-yes}
 use borrow.Author.Needs.{needs}
 use Rattle.asking.proofs.part.part.Statement.{statement}

@@ -3,14 +3,14 @@ use mathlib.Core.Bool.{false}
 use mathlib.Core.List.{[], _∷_}
 use lib.Dec.{ltb}
 use Rattle.counters.specs.Lines.{line}
+use Rattle.joining.specs.Range.{inRange}
 use Rattle.opening.specs.Opened.{Opens}
 use Rattle.opening.specs.declared.OpenAnswer.{OpenAnswer}
-use Rattle.joining.specs.Range.{inRange}
 use Rattle.homing.specs.Receiving.{Askable}
 use Rattle.homing.specs.declared.receiving.Asked.{Asked}
 use Rattle.looking.specs.Looking.{lastFrame}
-use Rattle.receiving.specs.Listened.{missing}
 use Rattle.looking.proofs.LookLaws.{begun-opens, look-long}
+use Rattle.receiving.specs.Listened.{missing}
 use Rattle.receiving.proofs.ListenLaws.{found-trch, found-bit, askable, listen-no, listen-missing, listen-looked, listen-yes}
 use borrow.Author.Needs.{needs}
 use Rattle.receiving.proofs.listening.listen.Statement.{statement}

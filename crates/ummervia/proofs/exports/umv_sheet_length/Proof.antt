@@ -1,6 +1,6 @@
 use mathlib.Core.Path.{ap, _∙_}
 use Rattle.writing.specs.Written.{lengthAnswer}
-use Rattle.ummervia.proofs.SheetLaws.{length-misfit, length-made}
+use Rattle.sheets.proofs.SheetLaws.{length-misfit, length-made}
 use borrow.Author.Needs.{needs}
 use Rattle.ummervia.proofs.exports.umv_sheet_length.Statement.{statement}
 use Rattle.ummervia.proofs.exports.umv_sheet_length.Tie as tie

@@ -1,4 +1,4 @@
-use Rattle.ummervia.proofs.SheetLaws.{read-refused, read-misfit, read-laid}
+use Rattle.sheets.proofs.SheetLaws.{read-refused, read-misfit, read-laid}
 use borrow.Author.Needs.{needs}
 use Rattle.ummervia.proofs.exports.umv_sheet_read.Statement.{statement}
 use Rattle.ummervia.proofs.exports.umv_sheet_read.Tie as tie

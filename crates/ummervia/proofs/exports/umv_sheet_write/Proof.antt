@@ -1,7 +1,7 @@
 use mathlib.Core.Path.{ap, _∙_}
 use Rattle.sheet.specs.declared.Sheet.{Sheet}
-use Rattle.ummervia.specs.Sheets.{writeInto}
-use Rattle.ummervia.proofs.SheetLaws.{write-misfit, write-flat}
+use Rattle.sheets.specs.Sheets.{writeInto}
+use Rattle.sheets.proofs.SheetLaws.{write-misfit, write-flat}
 use borrow.Author.Needs.{needs}
 use Rattle.ummervia.proofs.exports.umv_sheet_write.Statement.{statement}
 use Rattle.ummervia.proofs.exports.umv_sheet_write.Tie as tie

@@ -1,7 +1,7 @@
-use Rattle.ummervia.proofs.FlatLaws.{sheet-taken}
+use Rattle.sheets.proofs.FlatLaws.{sheet-taken}
 use borrow.Author.Needs.{needs}
-use Rattle.ummervia.proofs.flat.take_sheet.Statement.{statement}
-use Rattle.ummervia.proofs.flat.take_sheet.Tie as tie
+use Rattle.sheets.proofs.flat.take_sheet.Statement.{statement}
+use Rattle.sheets.proofs.flat.take_sheet.Tie as tie
 
 slice-aggregate-take-part : tie.Need-slice-aggregate-take-part
 slice-aggregate-take-part c = search needs

@@ -5,8 +5,8 @@ use Prim.Native.Nat.{ℕ, _+_, _-_, _≤_}
 use native.Mathlib.Numerals.{add-one}
 use lib.ListN.{length, getD, set}
 use lib.Seq.{paste, paste-zero, paste-suc, length-paste}
-use Rattle.ummervia.proofs.flat.lay.Statement.{statement}
-use Rattle.ummervia.proofs.flat.lay.Tie as tie
+use Rattle.sheets.proofs.flat.lay.Statement.{statement}
+use Rattle.sheets.proofs.flat.lay.Tie as tie
 
 abbrev Inv-loop : tie.InvT-loop
 Inv-loop out₀ at part i₀ out i = (i ≤ length part) × (out ≡ paste out₀ at part i)

@@ -18,9 +18,9 @@ use Rattle.sheet.proofs.NumberLaws.{read-numbered, number-read, fields-read}
 use Rattle.writing.specs.Numbers.{fieldNumber, writeNumber}
 use Rattle.writing.specs.Written.{bytesOf, lengthAnswer, writeAnswer, writtenTo}
 use Rattle.looking.specs.Outcome.{Outcome, outcome, wrote}
-use Rattle.ummervia.specs.Flat.{flatCount, flatOf, sheetFrom}
-use Rattle.ummervia.specs.Sheets.{notFlat, readInto, writeInto, answerMade, lengthFrom, writeFrom}
 use Rattle.looking.proofs.OutcomeLaws.{wrote-no, wrote-yes}
+use Rattle.sheets.specs.Flat.{flatCount, flatOf, sheetFrom}
+use Rattle.sheets.specs.Sheets.{notFlat, readInto, writeInto, answerMade, lengthFrom, writeFrom}
 
 -- reading into a row that was `old`
 module _ (s : List ℕ) (a : SheetAnswer) (e : a ≡ readAnswer s) (old : List ℕ) where

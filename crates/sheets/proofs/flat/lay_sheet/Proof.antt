@@ -1,7 +1,7 @@
-use Rattle.ummervia.proofs.FlatLaws.{row-laid}
+use Rattle.sheets.proofs.FlatLaws.{row-laid}
 use borrow.Author.Needs.{needs}
-use Rattle.ummervia.proofs.flat.lay_sheet.Statement.{statement}
-use Rattle.ummervia.proofs.flat.lay_sheet.Tie as tie
+use Rattle.sheets.proofs.flat.lay_sheet.Statement.{statement}
+use Rattle.sheets.proofs.flat.lay_sheet.Tie as tie
 
 slice-aggregate-lay : tie.Need-slice-aggregate-lay
 slice-aggregate-lay c = search needs

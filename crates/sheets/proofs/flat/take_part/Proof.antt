@@ -3,9 +3,9 @@ use mathlib.Core.Path.{_≡_, refl, _∙_}
 use Prim.Native.Nat.{ℕ, _+_, _-_, _≤_, _<_}
 use lib.ListN.{length, getD, length-set}
 use Rattle.laws.proofs.TableLaws.{filled-more}
-use Rattle.ummervia.proofs.FlatLaws.{part-out}
-use Rattle.ummervia.proofs.flat.take_part.Statement.{statement}
-use Rattle.ummervia.proofs.flat.take_part.Tie as tie
+use Rattle.sheets.proofs.FlatLaws.{part-out}
+use Rattle.sheets.proofs.flat.take_part.Statement.{statement}
+use Rattle.sheets.proofs.flat.take_part.Tie as tie
 
 abbrev Inv-loop : tie.InvT-loop
 Inv-loop flat at out₀ i₀ out i = (i ≤ length out₀) × (length out ≡ length out₀) × ((j : ℕ) → j < i → getD out j 0 ≡ getD flat (at + j) 0)

@@ -16,11 +16,11 @@ use Rattle.writing.specs.Written.{bytesOf, trimmed}
 use Rattle.writing.proofs.ReadWritten.{read-back}
 use Rattle.writing.proofs.WriteRead.{written-again, accepted-again}
 use Rattle.looking.specs.Outcome.{outcome}
-use Rattle.ummervia.specs.Flat.{flatCount, flatOf, sheetFrom}
-use Rattle.ummervia.specs.Sheets.{notFlat, readInto, writeInto, writeFromLines, writeFrom}
 use Rattle.looking.proofs.OutcomeLaws.{wrote-yes}
-use Rattle.ummervia.proofs.FlatLaws.{Shaped, flat-long, flat-back}
-use Rattle.ummervia.proofs.SheetLaws.{read-laid, write-flat}
+use Rattle.sheets.specs.Flat.{flatCount, flatOf, sheetFrom}
+use Rattle.sheets.specs.Sheets.{notFlat, readInto, writeInto, writeFromLines, writeFrom}
+use Rattle.sheets.proofs.FlatLaws.{Shaped, flat-long, flat-back}
+use Rattle.sheets.proofs.SheetLaws.{read-laid, write-flat}
 
 -- what was written from the fields of a row is accepted, and read into a row it is those fields, with zeros past I, T and P
 pub written-read : (l : List ℕ) (n : ℕ) (old : List ℕ) → firstOf (writeFromLines l n) ≡ 0 → length old ≡ flatCount

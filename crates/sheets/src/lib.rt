@@ -3,7 +3,10 @@ ghost use mathlib.Core.Path.{_≡_};
 ghost use Rattle.sheet.specs.Numbers.{readAnswer};
 ghost use Rattle.writing.specs.Written.{lengthAnswer};
 ghost use Rattle.looking.specs.Outcome.{outcome};
-ghost use Rattle.ummervia.specs.Sheets.{writeInto};
+ghost use Rattle.sheets.specs.Sheets.{writeInto};
+
+pub mod flat;
+
 use counters::Answer;
 use sheet::Sheet;
 use sheet::SheetAnswer;

@@ -9,7 +9,7 @@ use lib.Seq.{ext-getD, getD-take, getD-drop, length-take-le, take-at, drop-appen
 use Rattle.laws.proofs.LaidLaws.{laid-none, laid-more, laid-all}
 use Rattle.sheet.specs.Counts.{mostChannels, mostSlots, mostCapacities}
 use Rattle.sheet.specs.declared.Sheet.{Sheet}
-use Rattle.ummervia.specs.Flat.{ttiFrom, encodedFrom, ratioFrom, phchsFrom, capsFrom, flatCount, flatOf, sheetFrom, LaidAt}
+use Rattle.sheets.specs.Flat.{ttiFrom, encodedFrom, ratioFrom, phchsFrom, capsFrom, flatCount, flatOf, sheetFrom, LaidAt}
 
 -- a part that was copied out place by place
 pub part-out : (l out : List ℕ) (at n : ℕ) → at + n ≤ length l → length out ≡ n → ((j : ℕ) → j < n → getD out j 0 ≡ getD l (at + j) 0)

@@ -12,8 +12,8 @@ use Rattle.sheet.specs.declared.Sheet.{Sheet}
 use Rattle.writing.specs.Numbers.{fieldLines, writeLines, writeNumber}
 use Rattle.writing.specs.Written.{bytesOf}
 use Rattle.looking.specs.Outcome.{Outcome, wrote}
-use Rattle.ummervia.specs.Flat.{flatCount, flatOf, sheetFrom}
 use Rattle.looking.specs.Looking.{notLong}
+use Rattle.sheets.specs.Flat.{flatCount, flatOf, sheetFrom}
 
 -- 11: a row of fields has not 283 numbers
 abbrev pub notFlat : ℕ → Bool

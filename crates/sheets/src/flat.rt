@@ -3,7 +3,7 @@ ghost use mathlib.Core.Path.{_≡_};
 ghost use Prim.Native.Nat.{_+_, _≤_};
 ghost use lib.ListN.{length, take, drop};
 ghost use Rattle.sheet.specs.Counts.{mostChannels, mostSlots, mostCapacities};
-ghost use Rattle.ummervia.specs.Flat.{flatCount, flatOf, sheetFrom, LaidAt};
+ghost use Rattle.sheets.specs.Flat.{flatCount, flatOf, sheetFrom, LaidAt};
 use sheet::Sheet;
 use sheet::counts::CAPACITIES;
 use sheet::counts::CHANNELS;

@@ -1,7 +1,7 @@
-use Rattle.ummervia.proofs.SheetLaws.{write-made}
+use Rattle.sheets.proofs.SheetLaws.{write-made}
 use borrow.Author.Needs.{needs}
-use Rattle.ummervia.proofs.sheets.sheet_write.Statement.{statement}
-use Rattle.ummervia.proofs.sheets.sheet_write.Tie as tie
+use Rattle.sheets.proofs.sheet_write.Statement.{statement}
+use Rattle.sheets.proofs.sheet_write.Tie as tie
 
 write-sheet-requires : tie.Need-write-sheet-requires
 write-sheet-requires c κs = search needs

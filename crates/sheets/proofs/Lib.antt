@@ -1,0 +1,3 @@
+pub mod FlatLaws
+pub mod SheetLaws
+pub mod ThereAndBack
