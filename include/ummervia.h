@@ -25,6 +25,8 @@
 extern "C" {
 #endif
 
+#define UMV_RELEASE "1.0.0" /* of this header and its archive */
+
 /* The numbers a call answers. Each call below says which of them it can give. */
 enum umv_number {
     UMV_OK = 0,             /* accepted */
@@ -63,6 +65,11 @@ enum umv_field {
 
 #define UMV_FIELDS 283      /* values in the fields of a sheet */
 #define UMV_SHEET_MOST 394  /* bytes of the longest sheet */
+
+/*
+ * In every call but umv_sheet_write `sheet` is read only: sheet_len bytes, whatever they are; what is no sheet is refused with
+ * one of 1 to 8. A bit is a byte of 0 or 1 wherever bits are lent or written.
+ */
 
 /*
  * Reads a sheet into its fields.
@@ -147,7 +154,7 @@ uint32_t umv_spread(const uint8_t *sheet, size_t sheet_len, const uint8_t *multi
 /*
  * Which bit stands at a place of the frame, by direct calculation: nothing is built. No two places of a frame have the same
  * answer, and the bits of its segments that no place has are the punctured ones.
- * frame_number  0 to 255
+ * frame_number  0 to 255: the number under which the frame is built
  * slot          counted from 1, at most T
  * phch          counted from 1, at most P of the slot
  * place         counted from 1, at most U of the PhCH
@@ -171,7 +178,8 @@ uint32_t umv_part(const uint8_t *sheet, size_t sheet_len, uint32_t trch, uint64_
                   uint64_t *length);
 
 /*
- * The calls below bring a received frame home. A soft value is a float from -65,536 to 65,536, both allowed; a NaN is not.
+ * The calls below bring a received frame home. A soft value is a float from -65,536 to 65,536, both allowed; a NaN is not. Which
+ * sign stands for which bit is the caller's affair: values are moved, added, and compared by magnitude.
  */
 
 /*
@@ -191,8 +199,9 @@ uint32_t umv_gather(const uint8_t *sheet, size_t sheet_len, const float *frame, 
  * the order in which they were sent, each sum rounded once, and a punctured bit gets +0.0.
  * frame_number  0 to 255: the number under which the frame was built
  * frame         frame_len soft values, only read, in the frame's order; frame_len must be D
- * joined        joined_len floats: channels in order, T_i values each in first-interleaved order; joined_len must be the
- *               sum of all T_i (umv_sizes)
+ * joined        joined_len floats: channels in order, T_i values each in first-interleaved order, which is segment 0 of N
+ *               values, then segment 1 and so on; joined_len must be the sum of all T_i (umv_sizes). A new TTI needs no
+ *               clearing, since its F frames write all of the channel's values
  * at            answer: the values written, the sum of N; with 12 the index in frame of the first value out of range
  * Numbers: 1 to 8 of the sheet; then 9, 11, 12.
  */
@@ -214,7 +223,9 @@ uint32_t umv_finish(const uint8_t *sheet, size_t sheet_len, uint32_t trch, const
 /*
  * What was heard of one bit of a channel's segment in a received frame.
  * trch          the channel, counted from 1, at most I
- * bit           the bit of this frame's segment, counted from 1, at most N
+ * bit           the bit of this frame's segment, counted from 1, at most N. umv_name counts otherwise: with m = bit - 1 and
+ *               n = frame_number mod F it is bit m * F + P(n) + 1 of the TTI, P being 0 for F = 1; 0,1 for F = 2;
+ *               0,2,1,3 for F = 4; 0,4,2,6,1,5,3,7 for F = 8
  * at            answer: 0; with 12 the index in frame of the first value out of range
  * value         answer: the value, the joined value of several copies, or +0.0 where nothing was heard
  * copies        answer: how many copies were sent; 0 says that the bit was punctured
@@ -229,8 +240,8 @@ uint32_t umv_heard(const uint8_t *sheet, size_t sheet_len, uint32_t frame_number
  * trch          the channel, counted from 1, at most I
  * at            answer: 0; with 12 the index in frame of the first value out of range
  * least         answer: the least magnitude among the channel's joined values; +0.0 if no bit was heard
- * greatest      answer: the greatest
- * punctured     answer: how many bits of the segment were punctured
+ * greatest      answer: the greatest magnitude; +0.0 if no bit was heard
+ * punctured     answer: how many of the segment's N bits were punctured, fillers among them
  * The other parameters are those of umv_take_back.
  * Numbers: 1 to 8 of the sheet; then 9; then 10 if trch is 0 or over I; then 11, 12.
  */
