@@ -1,7 +1,7 @@
 /*
  * sizes [FILE]: prints what the format sheet in FILE asks of a frame; without FILE, of the example of document 01.
  *
- *     cc -Iinclude examples/sizes.c target/staticlib/libummervia.a -o sizes && ./sizes examples/example.sheet
+ *     cc sizes.c $(pkg-config --cflags --libs ummervia) -o sizes && ./sizes example.sheet
  */
 #include <inttypes.h>
 #include <stdio.h>
