@@ -1,8 +1,9 @@
-# make run: a first look. make test: everything, as the gate runs it. make ctest: the edit loop. make bench. make stack. make clean.
+# make run: a first look. make test: everything, as the gate runs it. make ctest: the edit loop. make install, make uninstall
+# [PREFIX=.. DESTDIR=..]: the kit. make bench. make stack. make clean.
 
 SHELL := /bin/bash
 .SHELLFLAGS := -eu -o pipefail -c
-.PHONY: help run test ctest bench stack setup clean
+.PHONY: help run test ctest install uninstall bench stack setup clean
 .DEFAULT_GOAL := help
 .NOTPARALLEL: # rt works with all processors by itself, and rt ci removes target/
 
@@ -31,7 +32,7 @@ REFERENCE := tests/reference.c tests/reference.h tests/reference-steps.h tests/i
 SOURCES := crates.txt $(shell find crates -type f)
 
 help:
-	@head -n 1 Makefile
+	@head -n 2 Makefile
 
 run:
 	rt check tour
@@ -56,6 +57,36 @@ ctest: target/c/calls target/c/values target/c/vectors target/c/random target/c/
 	$(RUN) target/c/home
 	tests/lister.sh $(RUN) $(LISTER)
 	$(RUN) target/c/sizes examples/example.sheet
+
+# The kit: archive, header, pkg-config file, manual page, papers and examples. The header says its release and its calls,
+# docs/SPEED.md the stack of each call.
+PREFIX ?= /usr/local
+ROOT := $(abspath $(PREFIX))
+KIT := $(DESTDIR)$(ROOT)
+RELEASE := $(shell sed -n 's/^.define UMV_RELEASE "\(.*\)".*/\1/p' include/ummervia.h)
+CALLS := $(shell sed -n 's/^uint32_t \(umv_[a-z_]*\).*/\1/p' include/ummervia.h)
+MANUAL := $(KIT)/share/man/man3
+PAPERS := $(KIT)/share/doc/ummervia
+
+install: $(ARCHIVE)
+	@mkdir -p target/kit
+	@sed -e 's|@PREFIX@|$(ROOT)|' -e 's|@RELEASE@|$(RELEASE)|' kit/ummervia.pc.in > target/kit/ummervia.pc
+	@sed -n 's/^| \(umv_[a-z_]*\) | \([0-9,]*\) |$$/.TP 24\n.B \1\n\2/p' docs/SPEED.md > target/kit/stack
+	@sed -e 's|@RELEASE@|$(RELEASE)|' -e '/^@STACK@$$/{r target/kit/stack' -e 'd}' kit/ummervia.3.in > target/kit/ummervia.3
+	install -D -m 644 -t $(KIT)/lib $(ARCHIVE)
+	install -D -m 644 -t $(KIT)/include include/ummervia.h
+	install -D -m 644 -t $(KIT)/lib/pkgconfig target/kit/ummervia.pc
+	install -D -m 644 -t $(MANUAL) target/kit/ummervia.3
+	@echo .so man3/ummervia.3 > target/kit/page; \
+	for call in $(CALLS); do install -m 644 target/kit/page $(MANUAL)/$$call.3; done
+	install -D -m 644 -t $(PAPERS) docs/PROMISES.md docs/SPEED.md
+	install -D -m 644 -t $(PAPERS)/examples examples/Makefile examples/*.c examples/*.sheet
+
+# Leaves the folders that others install into.
+uninstall:
+	rm -f $(KIT)/lib/libummervia.a $(KIT)/include/ummervia.h $(KIT)/lib/pkgconfig/ummervia.pc
+	@rm -f $(MANUAL)/ummervia.3 $(CALLS:%=$(MANUAL)/%.3)
+	rm -rf $(PAPERS)
 
 # Instructions, counted: the same table on every machine with these compilers. Beside what setup installs it needs qemu
 # and the machine's own gcc, for the plugin that counts.
