@@ -1,9 +1,9 @@
-# make run: a first look. make test: everything, as the gate runs it. make ctest: the edit loop. make install, make uninstall
-# [PREFIX=.. DESTDIR=..]: the kit. make bench. make stack. make clean.
+# make run: a first look. make test: everything, as the gate runs it. make ctest: the edit loop. make bench. make stack. make clean.
+# make install, make uninstall, [PREFIX=..] [DESTDIR=..]: the kit of a release.
 
 SHELL := /bin/bash
 .SHELLFLAGS := -eu -o pipefail -c
-.PHONY: help run test ctest install uninstall bench stack setup clean
+.PHONY: help run test ctest bench stack setup clean
 .DEFAULT_GOAL := help
 .NOTPARALLEL: # rt works with all processors by itself, and rt ci removes target/
 
@@ -17,11 +17,11 @@ CASES := tests/cases/sheet.txt tests/cases/frame.txt tests/cases/home.txt
 ifeq ($(shell uname -m),x86_64)
 CC := gcc
 RUN :=
-PACKAGES := gcc libc6-dev
+PACKAGES := gcc libc6-dev pkgconf
 else
 CC := x86_64-linux-gnu-gcc
 RUN := qemu-x86_64 -L /usr/x86_64-linux-gnu
-PACKAGES := gcc-x86-64-linux-gnu libc6-dev-amd64-cross qemu-user
+PACKAGES := gcc-x86-64-linux-gnu libc6-dev-amd64-cross qemu-user pkgconf
 run: setup
 endif
 
@@ -57,6 +57,7 @@ ctest: target/c/calls target/c/values target/c/vectors target/c/random target/c/
 	$(RUN) target/c/home
 	tests/lister.sh $(RUN) $(LISTER)
 	$(RUN) target/c/sizes examples/example.sheet
+	tests/kit.sh $(CC) $(RUN)
 
 # The kit: archive, header, pkg-config file, manual page, papers and examples. The header says its release and its calls,
 # docs/SPEED.md the stack of each call.
@@ -68,6 +69,7 @@ CALLS := $(shell sed -n 's/^uint32_t \(umv_[a-z_]*\).*/\1/p' include/ummervia.h)
 MANUAL := $(KIT)/share/man/man3
 PAPERS := $(KIT)/share/doc/ummervia
 
+.PHONY: install uninstall
 install: $(ARCHIVE)
 	@mkdir -p target/kit
 	@sed -e 's|@PREFIX@|$(ROOT)|' -e 's|@RELEASE@|$(RELEASE)|' kit/ummervia.pc.in > target/kit/ummervia.pc
@@ -99,10 +101,10 @@ bench: setup target/c/bench
 stack: setup target/c/stack
 	@bench/stack $(RUN) target/c/stack
 
-# Installs only what is missing: asked by linking a program and running it.
+# Installs only what is missing: asked by linking a program and running it, and by running pkg-config.
 setup:
 	@mkdir -p target/c; echo 'int main(void) { return 0; }' > target/c/probe.c; \
-	try() { $(CC) -static target/c/probe.c -o target/c/probe && $(RUN) target/c/probe; }; \
+	try() { $(CC) -static target/c/probe.c -o target/c/probe && $(RUN) target/c/probe && pkg-config --version > /dev/null; }; \
 	try 2> /dev/null || { apt-get update && apt-get install -y --no-upgrade --no-install-recommends $(PACKAGES) && try; }
 
 target/c/%: tests/%.c include/ummervia.h $(ARCHIVE)
