@@ -59,6 +59,7 @@ ctest: target/c/calls target/c/values target/c/vectors target/c/random target/c/
 	$(RUN) target/c/sizes examples/example.sheet
 	tests/kit.sh $(CC) $(RUN)
 	tests/reading.sh
+	tests/promises.sh
 
 # The kit: archive, header, pkg-config file, manual page, papers and examples. The header says its release and its calls,
 # docs/SPEED.md the stack of each call.
