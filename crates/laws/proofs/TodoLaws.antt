@@ -21,6 +21,10 @@ module _ {A : Type 0} {old out list : List A} {k : ℕ} {rest : List A} (t : Tod
   pub todo-turn : {rest′ : List A} → rest ≡ rest′ → Todo old out list k rest′
   todo-turn q = rw q at t
 
+  -- of what was there only the length counts
+  pub todo-over : {old′ : List A} → length old ≡ length old′ → Todo old′ out list k rest
+  todo-over q = record { same = t .same; ends = t .ends ∙ q; long = t .long ∙ q }
+
   pub todo-room : 0 < length rest → k < length list
   todo-room h = omega (arith, t .ends, t .long)
 

@@ -42,7 +42,7 @@ fn puncture(src: &[u8], dst: &mut [u8], start: usize, m: usize)
     }
 }
 
-// d > 0: one send a turn. The bit is the same as long as e would not stay above 0, e growing by 2N.
+// d > 0: each bit is sent as long as e would not stay above 0, e growing by 2N, and then once more, e falling by 2m.
 fn repeat(src: &[u8], dst: &mut [u8], start: usize, m: usize)
     requires { ⌜ Segment false m (length (now src)) (length (now dst)) start × (0 < m) ⌝ }
     ensures { λ _. ⌜ now (dst .exit) ≡ matched asIs (signedBy false m) (length (now (src .entry))) start (now (src .entry)) ⌝ }
@@ -53,14 +53,16 @@ fn repeat(src: &[u8], dst: &mut [u8], start: usize, m: usize)
     let mut k: usize = 0;
     let mut i: usize = 0;
     while i < src.len() {
-        dst[k] = src[i];
-        k += 1;
-        if e <= q {
+        let bit = src[i];
+        while e <= q {
+            dst[k] = bit;
+            k += 1;
             e += p;
-        } else {
-            e -= q;
-            i += 1;
         }
+        dst[k] = bit;
+        k += 1;
+        e -= q;
+        i += 1;
     }
 }
 
