@@ -3,6 +3,7 @@ use mathlib.Core.Path.{_≡_, refl, sym, ap, ap₂, _∙_, subst}
 use mathlib.Core.Bool.{Bool}
 use mathlib.Core.List.{List, [], _∷_, _++_}
 use Prim.Native.Nat.{ℕ, zero, suc, _+_, _-_, _%_, _≤_, _<_}
+use native.Mathlib.Nat.{mod-one}
 use native.Mathlib.Omega.{arith}
 use lib.IntN.{ℤ, pos, negsuc, natAbs}
 use borrow.Rule.Slice.PartMut.{putMid}
@@ -14,7 +15,7 @@ use Rattle.laws.specs.Joined.{joined}
 use Rattle.laws.proofs.SumLaws.{sum-within}
 use Rattle.sheet.specs.Counts.{mostBits}
 use Rattle.sheet.specs.Fields.{ttiOf, encodedOf}
-use Rattle.sheet.specs.Sizes.{framesOf, sizeOf, encodedAll, capacityAll}
+use Rattle.sheet.specs.Sizes.{framesIn, segmentIn, framesOf, sizeOf, encodedAll, capacityAll}
 use Rattle.sheet.specs.Range.{Accepted}
 use Rattle.sheet.specs.declared.Sheet.{Sheet}
 use Rattle.orders.proofs.OrderLaws.{frames-bounds}
@@ -30,7 +31,10 @@ use Rattle.pattern.proofs.MatchedLaws.{matched-same}
 use Rattle.pattern.proofs.SegmentLaws.{magnitude}
 use Rattle.interleaving.specs.First.{equalised, segmentOf, Segmenting}
 use Rattle.interleaving.proofs.EqualisedLaws.{segments-hold, equalised-length}
+use Rattle.interleaving.proofs.FirstLaws.{segment-whole}
 use Rattle.frame.specs.Frame.{startAt, sentOf, contentsOf}
+use Rattle.frame.specs.Walk.{Walks}
+use Rattle.frame.specs.declared.walking.Walk.{Walk}
 use Rattle.frame.proofs.SpreadLaws.{part-length, one-more}
 use Rattle.frame.proofs.FrameLaws.{rates, sent-matched, length-part}
 
@@ -42,6 +46,13 @@ matched-start f d N e s [] n h = refl
 matched-start f (pos zero) N e s (x ∷ xs) n h = matched-same f N e (x ∷ xs) ∙ sym (matched-same f N s (x ∷ xs))
 matched-start f (pos (suc a)) N e s (x ∷ xs) n h = ap (λ (k : ℕ). matched f (pos (suc a)) N k (x ∷ xs)) (h (omega arith) (omega arith))
 matched-start f (negsuc a) N e s (x ∷ xs) n h = ap (λ (k : ℕ). matched f (negsuc a) N k (x ∷ xs)) (h (omega arith) (omega arith))
+
+-- with F = 1 the segment is the contents
+one-frame : (e : ℕ) (c : List ℕ) (frame : ℕ) → length c ≡ e
+    → segmentOf 0 (frame % framesIn 0) (segmentIn e (framesIn 0)) (equalised 0 0 (segmentIn e (framesIn 0)) c) ≡ c
+one-frame e c frame ec =
+    let b = segments-hold e 1 (omega arith) in
+    segment-whole 0 (segmentIn e (framesIn 0)) c (frame % framesIn 0) (omega (arith, b .0, b .1)) (omega (arith, mod-one frame))
 
 module _ (sh : Sheet) (ok : Accepted sh) (i : ℕ) (l : i < sh .channels) where
   -- what is lent for the segment
@@ -72,34 +83,35 @@ module _ (sh : Sheet) (ok : Accepted sh) (i : ℕ) (l : i < sh .channels) where
             };
       })
 
-  -- and what comes out is what the channel sends
-  pub sent-is : (frame : ℕ) (less : Bool) (m e : ℕ) (c : List ℕ) {t k n : ℕ} {seg out : List ℕ} → t ≡ ttiOf sh i → k ≡ frame % framesOf sh i
-      → n ≡ sizeOf sh i → signedBy less m ≡ changeOf sh i → (0 < sizeOf sh i → 0 < m → e ≡ startAt sh frame i)
-      → seg ≡ segmentOf t k n (equalised 0 t n c) → length seg ≡ sizeOf sh i → out ≡ matched asIs (signedBy less m) (length seg) e seg
-      → out ≡ sentOf asIs sh frame i (equalised 0 (ttiOf sh i) (sizeOf sh i) c)
-  sent-is frame less m e c {t} {k} {n} {seg} {out} et ek en ed h es ls eo =
-      let q : segmentOf t k n (equalised 0 t n c) ≡ segmentOf (ttiOf sh i) (frame % framesOf sh i) (sizeOf sh i) (equalised 0 (ttiOf sh i) (sizeOf sh i) c) =
-      rw (et, ek, en) refl
-      in
-      eo
-      ∙ ap₂ (λ (d : ℤ) (n : ℕ). matched asIs d n e seg) ed ls
-      ∙ matched-start asIs (changeOf sh i) (sizeOf sh i) e (startAt sh frame i) seg ls
-      (λ a b. h a (let p : 0 < natAbs (signedBy less m) = rw ed b in rw (magnitude less m) at p))
-      ∙ ap (matched asIs (changeOf sh i) (sizeOf sh i) (startAt sh frame i)) (es ∙ q)
-      ∙ sym (sent-matched asIs sh ok frame i (equalised 0 (ttiOf sh i) (sizeOf sh i) c))
+  -- the segment, by the numbers that the code works out
+  pub segment-is : (frame : ℕ) (c : List ℕ) {t k n : ℕ} → t ≡ ttiOf sh i → k ≡ frame % framesOf sh i → n ≡ sizeOf sh i
+      → segmentOf t k n (equalised 0 t n c) ≡ segmentOf (ttiOf sh i) (frame % framesOf sh i) (sizeOf sh i) (equalised 0 (ttiOf sh i) (sizeOf sh i) c)
+  segment-is frame c et ek en = rw (et, ek, en) refl
 
-  -- the segment has N bits
-  pub segment-sized : (frame : ℕ) (c : List ℕ) {t k n : ℕ} {seg : List ℕ} → t ≡ ttiOf sh i → k ≡ frame % framesOf sh i → n ≡ sizeOf sh i
-      → length c ≡ encodedOf sh i → seg ≡ segmentOf t k n (equalised 0 t n c) → length seg ≡ sizeOf sh i
-  segment-sized frame c {t} {k} {n} et ek en ec es =
-      let q : segmentOf t k n (equalised 0 t n c) ≡ segmentOf (ttiOf sh i) (frame % framesOf sh i) (sizeOf sh i) (equalised 0 (ttiOf sh i) (sizeOf sh i) c) =
-      rw (et, ek, en) refl
-      in
+  -- it has N bits
+  pub segment-sized : (frame : ℕ) (c : List ℕ) → length c ≡ encodedOf sh i
+      → length (segmentOf (ttiOf sh i) (frame % framesOf sh i) (sizeOf sh i) (equalised 0 (ttiOf sh i) (sizeOf sh i) c)) ≡ sizeOf sh i
+  segment-sized frame c ec =
       let b = frames-bounds (ttiOf sh i) (ok .ranged .tti i l) in
       let h = segments-hold (encodedOf sh i) (framesOf sh i) (b .0) .0 in
-      ap length (es ∙ q)
-      ∙ length-part asIs sh ok frame i (equalised 0 (ttiOf sh i) (sizeOf sh i) c) l
+      length-part asIs sh ok frame i (equalised 0 (ttiOf sh i) (sizeOf sh i) c) l
       (equalised-length 0 (ttiOf sh i) (sizeOf sh i) c (omega arith))
+
+  pub segment-one : (frame : ℕ) (c : List ℕ) → ttiOf sh i ≡ 0 → length c ≡ encodedOf sh i
+      → segmentOf (ttiOf sh i) (frame % framesOf sh i) (sizeOf sh i) (equalised 0 (ttiOf sh i) (sizeOf sh i) c) ≡ c
+  segment-one frame c et ec = rw et (one-frame (encodedOf sh i) c frame ec)
+
+  -- what comes out is what the channel sends
+  pub sent-is : (frame : ℕ) (w : Walk) → Walks sh frame i w → (t : List ℕ) {seg out : List ℕ}
+      → seg ≡ segmentOf (ttiOf sh i) (frame % framesOf sh i) (sizeOf sh i) t → length seg ≡ sizeOf sh i
+      → out ≡ matched asIs (signedBy (w .less) (w .m)) (length seg) (w .e) seg → out ≡ sentOf asIs sh frame i t
+  sent-is frame w k t {seg} es ls eo =
+      eo
+      ∙ ap₂ (λ (d : ℤ) (n : ℕ). matched asIs d n (w .e) seg) (k .change) ls
+      ∙ matched-start asIs (changeOf sh i) (sizeOf sh i) (w .e) (startAt sh frame i) seg ls
+      (λ a b. k .start a (let p : 0 < natAbs (signedBy (w .less) (w .m)) = rw (k .change) b in rw (magnitude (w .less) (w .m)) at p))
+      ∙ ap (matched asIs (changeOf sh i) (sizeOf sh i) (startAt sh frame i)) es
+      ∙ sym (sent-matched asIs sh ok frame i t)
 
   -- the start that the code works out is step 5's where there is a pattern
   pub started : (frame : ℕ) (less : Bool) (m : ℕ) {e N : ℕ} → N ≡ sizeOf sh i → signedBy less m ≡ changeOf sh i
@@ -107,6 +119,11 @@ module _ (sh : Sheet) (ok : Accepted sh) (i : ℕ) (l : i < sh .channels) where
   unfolding startAt
   started frame less m en ed h a p =
       h (omega arith) p ∙ ap₂ (λ (n : ℕ) (d : ℤ). startOf n d (ttiOf sh i) frame) en ed
+
+-- a walk fits a segment of N and its share
+pub fits-by : (sh : Sheet) (number i : ℕ) (w : Walk) → Walks sh number i w → {n v : ℕ} → n ≡ sizeOf sh i → v ≡ shareOf sh i
+    → Segment (w .less) (w .m) n v (w .e)
+fits-by sh number i w k p q = rw (p ∙ sym (k .size), q) (k .fits)
 
 -- channel after channel: the part of the contents, and the part of the multiplexed frame
 module _ (o : Opened) (h : Opens o) (i : ℕ) (l : i < o .fields .channels) where

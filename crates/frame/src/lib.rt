@@ -3,3 +3,4 @@ pub mod building;
 pub mod checking;
 pub mod multiplexing;
 pub mod spreading;
+pub mod walking;

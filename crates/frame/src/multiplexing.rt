@@ -1,41 +1,22 @@
 // Steps 1 to 7: what each channel sends in a frame, channel after channel.
 ghost use mathlib.Core.Path.{_≡_};
-ghost use Prim.Native.Nat.{ℕ, _≤_, _<_};
+ghost use Prim.Native.Nat.{_<_};
 ghost use lib.ListN.{length};
-ghost use Rattle.sheet.specs.Counts.{mostTti, mostEncoded, mostBits};
 ghost use Rattle.sheet.specs.Fields.{ttiOf, encodedOf};
 ghost use Rattle.sheet.specs.Sizes.{sizeOf, encodedAll, capacityAll};
-ghost use Rattle.matching.specs.Signed.{signedBy};
 ghost use Rattle.matching.specs.Shares.{shareOf};
-ghost use Rattle.offset.specs.Offset.{startOf};
 ghost use Rattle.opening.specs.Opened.{Opens};
 ghost use Rattle.pattern.specs.Pattern.{asIs};
 ghost use Rattle.interleaving.specs.First.{equalised};
 ghost use Rattle.frame.specs.Frame.{sentOf, multiplexedBits};
 ghost use Rattle.frame.specs.Room.{Segments};
+use crate::walking::walk_of;
 use counters::FrameNumber;
-use matching::shares::Change;
-use matching::shares::difference;
-use offset::start;
 use opening::Opened;
 use sheet::count;
 use sheet::sizes::frames;
 
-// The start e, and 1 where no pattern starts: an empty channel, or d = 0.
-pub fn start_of(n: u64, d: Change, tti: u16, frame: FrameNumber) -> u64
-    requires { ⌜ (n ≤ mostEncoded) × (d .size ≤ mostBits) × (tti ≤ mostTti) ⌝ }
-    ensures { λ r. ⌜ (0 < n → 0 < d .size → r ≡ startOf n (signedBy (d .less) (d .size)) tti (frame .0)) × (r ≤ 32766) ⌝ }
-{
-    if n == 0 {
-        return 1;
-    }
-    if d.size == 0 {
-        return 1;
-    }
-    start(n, d, tti, frame)
-}
-
-// The bits that channel i sends. The room is for its segment.
+// The bits that channel i sends. A TTI of one frame is its own segment; else the room is for the segment.
 fn send(
     contents: &[u8],
     opened: Opened,
@@ -50,11 +31,14 @@ fn send(
     let fields = opened.fields;
     let ttis = fields.tti;
     let tti = ttis[i];
-    let k = frame.within(frames(tti));
-    interleaving::first::segment(contents, count(tti), room.len(), k, room);
-    let d = difference(out.len() as u64, room.len() as u64);
-    let e = start_of(room.len() as u64, d, tti, frame);
-    pattern::match_rate(room, out, e as usize, d.less, d.size as usize);
+    let w = walk_of(opened, i, frame);
+    if tti == 0 {
+        pattern::match_rate(contents, out, w.e, w.less, w.m);
+    } else {
+        let k = frame.within(frames(tti));
+        interleaving::first::segment(contents, count(tti), room.len(), k, room);
+        pattern::match_rate(room, out, w.e, w.less, w.m);
+    }
 }
 
 // Channel after channel. The room is for one segment at a time.

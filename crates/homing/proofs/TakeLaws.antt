@@ -20,6 +20,8 @@ use Rattle.matching.specs.Shares.{shareOf, changeOf}
 use Rattle.pattern.specs.Pattern.{again, grown, after, sharedFrom, shared, Segment}
 use Rattle.pattern.proofs.SegmentLaws.{magnitude}
 use Rattle.frame.specs.Frame.{startAt}
+use Rattle.frame.specs.Walk.{Walks}
+use Rattle.frame.specs.declared.walking.Walk.{Walk}
 use Rattle.joining.specs.Joining.{joinOf, valueOf, heardOf, homeOf}
 use Rattle.joining.specs.Linked.{linkOf}
 use Rattle.joining.specs.declared.Heard.{Heard}
@@ -29,8 +31,7 @@ use Rattle.opening.specs.declared.Opened.{Opened}
 use Rattle.opening.proofs.OpenLaws.{low-is}
 use Rattle.frame.proofs.SendLaws.{cut-share}
 use Rattle.homing.specs.Home.{partOf, channelStart, segmentStart}
-use Rattle.homing.specs.Taking.{Walks, homeIn, hearIn, surveyIn, takenFrom}
-use Rattle.homing.specs.declared.taking.Walk.{Walk}
+use Rattle.homing.specs.Taking.{homeIn, hearIn, surveyIn, takenFrom}
 
 -- where there is no bit, or d = 0, no start counts
 shared-same : (P e s n : ℕ) (vs : List Float) → sharedFrom false P 0 e n vs ≡ sharedFrom false P 0 s n vs
@@ -45,11 +46,6 @@ shared-start d zero e s vs h = refl
 shared-start (pos zero) (suc N) e s vs h = shared-same (2 * suc N) e s (suc N) vs
 shared-start (pos (suc a)) (suc N) e s vs h = ap (λ (k : ℕ). shared (pos (suc a)) (suc N) k vs) (h (omega arith) (omega arith))
 shared-start (negsuc a) (suc N) e s vs h = ap (λ (k : ℕ). shared (negsuc a) (suc N) k vs) (h (omega arith) (omega arith))
-
--- the walk fits a segment and its values
-pub fits-by : (sh : Sheet) (number i : ℕ) (w : Walk) → Walks sh number i w → {n v : ℕ} → n ≡ sizeOf sh i → v ≡ shareOf sh i
-    → Segment (w .less) (w .m) n v (w .e)
-fits-by sh number i w k p q = rw (p ∙ sym (k .size), q) (k .fits)
 
 module _ (sh : Sheet) (number i : ℕ) (w : Walk) (k : Walks sh number i w) (vs : List Float) where
   shares : shared (signedBy (w .less) (w .m)) (w .n) (w .e) vs ≡ shared (changeOf sh i) (sizeOf sh i) (startAt sh number i) vs

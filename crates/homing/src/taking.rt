@@ -7,43 +7,17 @@ ghost use Rattle.sheet.specs.Sizes.{sizeOf, capacityAll, equalisedAll};
 ghost use Rattle.matching.specs.Shares.{shareOf};
 ghost use Rattle.opening.specs.Opened.{Opens};
 ghost use Rattle.homing.specs.Home.{takenCount};
-ghost use Rattle.homing.specs.Taking.{Walks, homeIn, hearIn, surveyIn, takenFrom};
+ghost use Rattle.homing.specs.Taking.{homeIn, hearIn, surveyIn, takenFrom};
 use counters::FrameNumber;
-use frame::multiplexing::start_of;
+use frame::walking::walk_of;
 use joining::Heard;
 use joining::filling::join_segment;
 use joining::hearing;
 use joining::linking::Link;
 use joining::linking::link_segment;
 use opening::Opened;
-use opening::change;
 use sheet::count;
 use sheet::sizes::frames;
-
-// Step 6 of one channel in a frame: N, the start e, and d by its sign and its magnitude m.
-pub struct Walk {
-    pub n: usize,
-    pub e: usize,
-    pub less: bool,
-    pub m: usize,
-}
-
-fn walk_of(opened: Opened, i: usize, number: FrameNumber) -> Walk
-    requires { ⌜ Opens opened × (i < opened .fields .channels) ⌝ }
-    ensures { λ r. ⌜ Walks (opened .fields) (number .0) i r ⌝ }
-{
-    let fields = opened.fields;
-    let sizes = opened.sizes;
-    let n = sizes[i];
-    let d = change(opened, i);
-    let e = start_of(n, d, fields.tti[i], number);
-    Walk {
-        n: n as usize,
-        e: e as usize,
-        less: d.less,
-        m: d.size as usize,
-    }
-}
 
 // The joined values of channel i's segment, out of its values as they were sent.
 fn take_channel(values: &[f32], opened: Opened, i: usize, number: FrameNumber, segment: &mut [f32])

@@ -1,5 +1,5 @@
 -- Laws of steps 2 and 3.
-use mathlib.Core.Path.{_≡_, sym, ap, _∙_}
+use mathlib.Core.Path.{_≡_, refl, sym, ap, _∙_}
 use mathlib.Core.List.{List, map, flatten}
 use Prim.Native.Nat.{ℕ, suc, _+_, _*_, _≤_, _<_}
 use native.Mathlib.Nat.{suc-mul, mul-le-mul-right}
@@ -11,10 +11,11 @@ use Rattle.laws.proofs.SumLaws.{sum-const}
 use Rattle.laws.proofs.PartLaws.{take-map, drop-map, parts-joined}
 use Rattle.sheet.specs.Counts.{mostTti}
 use Rattle.sheet.specs.Sizes.{framesIn}
-use Rattle.orders.specs.Orders.{columnAt, rowOf}
+use Rattle.orders.specs.Orders.{orders, columnAt, rowOf}
 use Rattle.orders.proofs.OrderLaws.{frames-bounds, column-swaps, length-row, row-at}
 use Rattle.interleaving.specs.Columns.{column, columns, height, heights}
-use Rattle.interleaving.specs.First.{firstInterleaved, segmentOf}
+use Rattle.interleaving.specs.First.{equalised, firstInterleaved, segmentOf}
+use Rattle.interleaving.proofs.EqualisedLaws.{equalised-length, equalised-bit}
 use Rattle.interleaving.proofs.ColumnLaws.{Among, height-full, column-at, column-length, columns-length, columns-at, columns-map}
 
 module _ (tti : ℕ) (known : tti ≤ mostTti) where
@@ -90,3 +91,22 @@ module _ {A B : Type 0} (g : A → B) (tti : ℕ) (xs : List A) where
   pub segment-map : (frame n : ℕ) → segmentOf tti frame n (map g xs) ≡ map g (segmentOf tti frame n xs)
   unfolding segmentOf
   segment-map frame n = rw (first-map, drop-map, take-map)
+
+column-one : columnAt 0 0 ≡ 0
+unfolding columnAt orders
+column-one = refl
+
+-- a TTI of one frame is its own segment
+pub segment-whole : {A : Type 0} (z : A) (n : ℕ) (xs : List A) (frame : ℕ) → length xs ≡ n → frame < framesIn 0
+    → segmentOf 0 frame n (equalised z 0 n xs) ≡ xs
+segment-whole z n xs frame e inside =
+    let full = equalised-length z 0 n xs (omega arith) in
+    let known : 0 ≤ mostTti = omega arith in
+    let long = segment-length 0 known n (equalised z 0 n xs) full frame inside in
+    let first : frame ≡ 0 = omega arith in
+    ext-getD z _ _ (long ∙ sym e)
+    (λ m l.
+    let k : m * framesIn 0 + columnAt 0 frame ≡ m = ap (λ (f : ℕ). m * framesIn 0 + columnAt 0 f) first ∙ omega (arith, column-one) in
+    segment-at 0 known n (equalised z 0 n xs) full frame inside m z (omega (arith, long))
+    ∙ ap (λ (j : ℕ). getD (equalised z 0 n xs) j z) k
+    ∙ equalised-bit z 0 n xs m z (omega (arith, long)))

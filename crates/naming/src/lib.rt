@@ -10,7 +10,7 @@ use counters::BitNumber;
 use counters::FrameNumber;
 use counters::PhchNumber;
 use counters::TrchNumber;
-use frame::multiplexing::start_of;
+use frame::walking::start_of;
 use matching::shares::difference;
 use opening::Opened;
 use opening::channel_at;

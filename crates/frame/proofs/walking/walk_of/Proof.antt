@@ -1,10 +1,10 @@
 use native.Mathlib.Omega.{arith}
 use mathlib.Core.Path.{refl}
 use Rattle.opening.proofs.OpenLaws.{size-is, sizes-most}
 use Rattle.frame.proofs.SendLaws.{sending, started}
 use borrow.Author.Needs.{needs}
-use Rattle.homing.proofs.taking.walk_of.Statement.{statement}
-use Rattle.homing.proofs.taking.walk_of.Tie as tie
+use Rattle.frame.proofs.walking.walk_of.Statement.{statement}
+use Rattle.frame.proofs.walking.walk_of.Tie as tie
 
 mul-n : tie.Need-mul-n
 mul-n c = search needs

@@ -1,5 +1,6 @@
 use native.Mathlib.Omega.{arith}
-use Rattle.homing.proofs.TakeLaws.{hear-in, fits-by}
+use Rattle.frame.proofs.SendLaws.{fits-by}
+use Rattle.homing.proofs.TakeLaws.{hear-in}
 use borrow.Author.Needs.{needs}
 use Rattle.homing.proofs.taking.hear_channel.Statement.{statement}
 use Rattle.homing.proofs.taking.hear_channel.Tie as tie

@@ -1,4 +1,5 @@
-use Rattle.homing.proofs.TakeLaws.{survey-in, fits-by}
+use Rattle.frame.proofs.SendLaws.{fits-by}
+use Rattle.homing.proofs.TakeLaws.{survey-in}
 use borrow.Author.Needs.{needs}
 use Rattle.homing.proofs.taking.survey_channel.Statement.{statement}
 use Rattle.homing.proofs.taking.survey_channel.Tie as tie

@@ -1,5 +1,6 @@
 use mathlib.Core.Path.{sym, _∙_}
-use Rattle.homing.proofs.TakeLaws.{home-in, fits-by}
+use Rattle.frame.proofs.SendLaws.{fits-by}
+use Rattle.homing.proofs.TakeLaws.{home-in}
 use borrow.Author.Needs.{needs}
 use Rattle.homing.proofs.taking.take_channel.Statement.{statement}
 use Rattle.homing.proofs.taking.take_channel.Tie as tie
