@@ -1,38 +1,30 @@
 // Steps 9 and 8 undone: the values of a received frame in the order of the multiplexed frame.
 ghost use mathlib.Core.Path.{_≡_};
-ghost use Prim.Native.Nat.{_<_};
 ghost use lib.Ieee.{nan};
 ghost use lib.ListN.{length};
-ghost use Rattle.sheet.specs.Sizes.{slotCapacity, capacityAll};
-ghost use Rattle.sheet.specs.Range.{Ranged, Accepted};
+ghost use Rattle.sheet.specs.Sizes.{capacityAll};
+ghost use Rattle.sheet.specs.Range.{Accepted};
 ghost use Rattle.homing.specs.Gather.{unmappedSlots, undoneSlots, undoneBits, gathered};
 use sheet::Sheet;
 use sheet::count;
 use sheet::counts::CODES;
-use sheet::sizes::slot_capacity;
-
-// How many values slot t has.
-fn slot_length(fields: Sheet, t: usize) -> usize
-    requires { ⌜ Ranged fields × (t < fields .slots) ⌝ }
-    ensures { λ r. ⌜ r ≡ slotCapacity fields t ⌝ }
-{
-    slot_capacity(fields, t) as usize
-}
+use sheet::sizes::slot_load;
 
 // Step 9 undone, slot after slot.
 fn unmap_slots(frame: &[f32], fields: Sheet, out: &mut [f32])
     requires { ⌜ Accepted fields × (length (now frame) ≡ capacityAll fields) × (length (now out) ≡ capacityAll fields) ⌝ }
     ensures { λ _. ⌜ now (out .exit) ≡ unmappedSlots nan fields (now (frame .entry)) ⌝ }
 {
-    let caps = fields.caps;
     let phchs = fields.phchs;
-    let n = count(fields.slots);
+    let caps = fields.caps;
     let mut t: usize = 0;
     let mut a: usize = 0;
-    while t < n {
-        let e = a + slot_length(fields, t);
+    while t < count(fields.slots) {
         let from = CODES * t;
-        let to = from + count(phchs[t]);
+        let n = count(phchs[t]);
+        let to = from + n;
+        let one = slot_load(&caps, from, n);
+        let e = a + one.sum as usize;
         mapping::unmap_slot(&frame[a..e], &caps[from..to], &mut out[a..e]);
         a = e;
         t += 1;
@@ -44,11 +36,13 @@ fn undo_slots(values: &[f32], fields: Sheet, out: &mut [f32])
     requires { ⌜ Accepted fields × (length (now values) ≡ capacityAll fields) × (length (now out) ≡ capacityAll fields) ⌝ }
     ensures { λ _. ⌜ now (out .exit) ≡ undoneSlots nan fields (now (values .entry)) ⌝ }
 {
-    let n = count(fields.slots);
+    let phchs = fields.phchs;
+    let caps = fields.caps;
     let mut t: usize = 0;
     let mut a: usize = 0;
-    while t < n {
-        let e = a + slot_length(fields, t);
+    while t < count(fields.slots) {
+        let one = slot_load(&caps, CODES * t, count(phchs[t]));
+        let e = a + one.sum as usize;
         interleaving::second::deinterleave(&values[a..e], &mut out[a..e]);
         a = e;
         t += 1;

@@ -19,7 +19,7 @@ use joining::linking::Link;
 use opening::Opened;
 use sheet::counts::MOST_BITS;
 
-// The frames of specs/Receiving.antt.
+// The frames of specs/Receiving.antt. Rooms are made of ones: all bytes 0 would be cleared byte by byte (docs/SPEED.md).
 pub const SMALL: usize = 512;
 
 pub const MIDDLE: usize = 4096;
@@ -129,8 +129,8 @@ fn receive_small(
     requires { ⌜ Opens opened × (length (now frame) ≡ capacityAll (opened .fields)) × Askable (opened .fields) asked (length (now joined)) × (length (now frame) ≤ smallFrame) ⌝ }
     ensures { λ r. ⌜ (r ≡ receptionOf (opened .fields) (number .0) (gathered nan (opened .fields) (now (frame .entry))) asked) × (now (joined .exit) ≡ receivedInto (opened .fields) (number .0) (gathered nan (opened .fields) (now (frame .entry))) asked (now (joined .entry))) ⌝ }
 {
-    let mut room = [0.0f32; SMALL];
-    let mut values = [0.0f32; SMALL];
+    let mut room = [1.0f32; SMALL];
+    let mut values = [1.0f32; SMALL];
     let n = frame.len();
     receive_within(
         frame,
@@ -153,8 +153,8 @@ fn receive_middle(
     requires { ⌜ Opens opened × (length (now frame) ≡ capacityAll (opened .fields)) × Askable (opened .fields) asked (length (now joined)) × (length (now frame) ≤ middleFrame) ⌝ }
     ensures { λ r. ⌜ (r ≡ receptionOf (opened .fields) (number .0) (gathered nan (opened .fields) (now (frame .entry))) asked) × (now (joined .exit) ≡ receivedInto (opened .fields) (number .0) (gathered nan (opened .fields) (now (frame .entry))) asked (now (joined .entry))) ⌝ }
 {
-    let mut room = [0.0f32; MIDDLE];
-    let mut values = [0.0f32; MIDDLE];
+    let mut room = [1.0f32; MIDDLE];
+    let mut values = [1.0f32; MIDDLE];
     let n = frame.len();
     receive_within(
         frame,
@@ -177,8 +177,8 @@ fn receive_large(
     requires { ⌜ Opens opened × (length (now frame) ≡ capacityAll (opened .fields)) × Askable (opened .fields) asked (length (now joined)) ⌝ }
     ensures { λ r. ⌜ (r ≡ receptionOf (opened .fields) (number .0) (gathered nan (opened .fields) (now (frame .entry))) asked) × (now (joined .exit) ≡ receivedInto (opened .fields) (number .0) (gathered nan (opened .fields) (now (frame .entry))) asked (now (joined .entry))) ⌝ }
 {
-    let mut room = [0.0f32; MOST_BITS as usize];
-    let mut values = [0.0f32; MOST_BITS as usize];
+    let mut room = [1.0f32; MOST_BITS as usize];
+    let mut values = [1.0f32; MOST_BITS as usize];
     let n = frame.len();
     receive_within(
         frame,

@@ -10,7 +10,8 @@ use Rattle.laws.specs.Sums.{sumTo}
 use Rattle.laws.proofs.LaidLaws.{laid-none, laid-all, laid-long}
 use Rattle.interleaving.specs.Second.{secondUndone}
 use Rattle.interleaving.proofs.SecondLaws.{undone-length}
-use Rattle.sheet.specs.Sizes.{capacityAll}
+use Rattle.sheet.specs.Sizes.{slotCapacity, capacityAll}
+use Rattle.sheet.proofs.SizeLaws.{load-sum}
 use Rattle.frame.specs.Frame.{slotStart, slotPart}
 use Rattle.homing.specs.Gather.{undoneSlots}
 use Rattle.frame.proofs.SpreadLaws.{slot-next, slot-within, part-length, part-is, one-more}
@@ -18,19 +19,21 @@ use Rattle.homing.proofs.gathering.undo_slots.Statement.{statement}
 use Rattle.homing.proofs.gathering.undo_slots.Tie as tie
 
 abbrev Inv-loop : tie.InvT-loop
-Inv-loop values fields out₀ n t₀ a₀ out t a =
-    (t ≤ n) × (a ≡ slotStart fields t) × (length out ≡ length out₀)
+Inv-loop values fields out₀ phchs caps t₀ a₀ out t a =
+    (t ≤ fields .slots) × (a ≡ slotStart fields t) × (length out ≡ length out₀)
     × Laid out₀ out a (joined (λ k. secondUndone nan (slotPart fields k values)) t)
 
 abbrev μ-loop : tie.MeasureT-loop
-μ-loop values fields out₀ n t₀ a₀ out t a = n - t
+μ-loop values fields out₀ phchs caps t₀ a₀ out t a = fields .slots - t
 
--- the slot's part lies within the frame
-end : (c : tie.After-slot-length Inv-loop μ-loop)
-    → c .before .before .loop .a + c .slot-length .result ≤ capacityAll (c .before .before .before .before .before .before .args .fields)
+-- the slot's capacity, and that its part lies within the frame
+total : (c : tie.After-slot-load Inv-loop μ-loop) → c .slot-load .result .sum ≡ slotCapacity (c .before .before .before .before .before .before .before .before .before .before .args .fields) (c .before .before .before .before .before .loop .t)
+total c = load-sum (c .before .before .before .before .before .before .before .before .before .before .args .fields) (c .before .before .before .before .before .loop .t) (c .before .count2 .ensures .0) (c .slot-load .ensures .0)
+
+end : (c : tie.After-slot-load Inv-loop μ-loop) → c .before .before .before .before .before .loop .a + c .slot-load .result .sum ≤ capacityAll (c .before .before .before .before .before .before .before .before .before .before .args .fields)
 end c =
-    let l = c .before .before .loop in
-    slot-within (c .before .before .before .before .before .before .args .fields) (l .t) (omega arith) (l .inv .1) (c .slot-length .ensures)
+    let l = c .before .before .before .before .before .loop in
+    slot-within (c .before .before .before .before .before .before .before .before .before .before .args .fields) (l .t) (omega arith) (l .inv .1) (total c)
 
 count-requires : tie.Need-count-requires Inv-loop μ-loop
 count-requires c κs = search needs
@@ -39,8 +42,22 @@ loop-holds : tie.Need-loop-holds Inv-loop μ-loop
 unfolding sumTo joined
 loop-holds c = (omega arith, refl, refl, laid-none _)
 
-slot-length-requires : tie.Need-slot-length-requires Inv-loop μ-loop
-slot-length-requires c κs = (c .before .before .before .before .before .pre .0 .ranged, omega arith)
+mul-slot-load : tie.Need-mul-slot-load Inv-loop μ-loop
+mul-slot-load c = omega (arith, c .before .before .before .before .before .before .before .before .pre .0 .ranged .fifteen)
+
+mul-count : tie.Need-mul-count Inv-loop μ-loop
+mul-count c = omega (arith, c .before .before .before .before .before .before .before .before .pre .0 .ranged .fifteen)
+
+array-read-count : tie.Need-array-read-count Inv-loop μ-loop
+array-read-count c = omega (arith, c .before .before .before .before .before .before .before .before .pre .0 .ranged .fifteen)
+
+count-requires-2 : tie.Need-count-requires-2 Inv-loop μ-loop
+count-requires-2 c κs = search needs
+
+slot-load-requires : tie.Need-slot-load-requires Inv-loop μ-loop
+slot-load-requires c κs =
+    let r = c .before .before .before .before .before .before .before .before .before .pre .0 .ranged in
+    omega (arith, r .fifteen, r .phch16 (c .before .before .before .before .loop .t) (omega arith), c .count2 .ensures .0)
 
 add-e : tie.Need-add-e Inv-loop μ-loop
 add-e c = omega (arith, end c)
@@ -72,9 +89,9 @@ part-deinterleave-end-2 c = omega (arith, end (c .before))
 deinterleave-requires : tie.Need-deinterleave-requires Inv-loop μ-loop
 deinterleave-requires c κs =
     let k = c .before .before in
-    let s = k .before .before .before .before .before .before in
-    let l = k .before .before .loop in
-    let e = l .a + k .slot-length .result in
+    let s = k .before .before .before .before .before .before .before .before .before .before in
+    let l = k .before .before .before .before .before .loop in
+    let e = l .a + k .slot-load .result .sum in
     part-length (l .out) (l .a) e (omega arith) (omega (arith, end k)) ∙ sym (part-length (s .args .values .now) (l .a) e (omega arith) (omega (arith, end k)))
 
 add-t : tie.Need-add-t Inv-loop μ-loop
@@ -87,11 +104,11 @@ loop-again : tie.Need-loop-again Inv-loop μ-loop
 loop-again c =
     let i = c .before .before in
     let k = i .before .before .before in
-    let s = k .before .before .before .before .before .before in
+    let s = k .before .before .before .before .before .before .before .before .before .before in
     let a = s .args in
-    let l = k .before .before .loop in
-    let u = k .slot-length .result in
-    let w = k .slot-length .ensures in
+    let l = k .before .before .before .before .before .loop in
+    let u = k .slot-load .result .sum in
+    let w = total k in
     let y = i .deinterleave .ensures in
     let n = ap length y ∙ undone-length nan _ ∙ part-length (a .values .now) (l .a) (l .a + u) (omega arith) (omega (arith, end k)) in
     let g = y ∙ ap (secondUndone nan) (part-is (a .fields) (l .t) (a .values .now) (l .inv .1) w) in
@@ -99,13 +116,13 @@ loop-again c =
     (omega arith, slot-next (a .fields) (l .t) (l .inv .1) w, laid-long _ _ _ _ m (omega (arith, end k)), m)
 
 same-length : tie.Need-same-length Inv-loop μ-loop
-same-length c = c .before .loop .inv .2
+same-length c = c .before .before .loop .inv .2
 
 returns : tie.Need-returns Inv-loop μ-loop
 unfolding undoneSlots
 returns c =
-    let s = c .before .before .before .before .before in
-    let l = c .before .loop in
+    let s = c .before .before .before .before .before .before .before in
+    let l = c .before .before .loop in
     let e : l .t ≡ s .args .fields .slots = omega arith in
     let d : l .a ≡ length (s .args .out .now) = l .inv .1 ∙ ap (slotStart (s .args .fields)) e ∙ sym (s .pre .2) in
     laid-all _ _ _ _ (l .inv .3) d ∙ ap (joined (λ k. secondUndone nan (slotPart (s .args .fields) k (s .args .values .now)))) e
@@ -116,9 +133,13 @@ undo-slots-spec =
     (tie.spec
     Inv-loop
     μ-loop
-    count-requires
     loop-holds
-    slot-length-requires
+    count-requires
+    mul-slot-load
+    mul-count
+    array-read-count
+    count-requires-2
+    slot-load-requires
     add-e
     mul-deinterleave
     sub-deinterleave

@@ -19,7 +19,7 @@ array-borrow-prefix-room c = fits (c .before .before)
 slice-aggregate-receive-within : tie.Need-slice-aggregate-receive-within
 slice-aggregate-receive-within c =
     let s = c .before .before .before in
-    sym (room-part mostBits (length (s .args .frame .now)) (ofBits binary32 0) (fits s))
+    sym (room-part mostBits (length (s .args .frame .now)) (ofBits binary32 1065353216) (fits s))
 
 array-borrow-prefix-values : tie.Need-array-borrow-prefix-values
 array-borrow-prefix-values c = fits (c .before .before .before)
@@ -27,12 +27,12 @@ array-borrow-prefix-values c = fits (c .before .before .before)
 slice-aggregate-receive-within-2 : tie.Need-slice-aggregate-receive-within-2
 slice-aggregate-receive-within-2 c =
     let s = c .before .before .before .before in
-    sym (room-part mostBits (length (s .args .frame .now)) (ofBits binary32 0) (fits s))
+    sym (room-part mostBits (length (s .args .frame .now)) (ofBits binary32 1065353216) (fits s))
 
 receive-within-requires : tie.Need-receive-within-requires
 receive-within-requires c κs =
     let s = c .before .before .before .before .before in
-    let n = room-part mostBits (length (s .args .frame .now)) (ofBits binary32 0) (fits s) ∙ s .pre .1 in
+    let n = room-part mostBits (length (s .args .frame .now)) (ofBits binary32 1065353216) (fits s) ∙ s .pre .1 in
     (s .pre .0, s .pre .1, n, n, s .pre .2)
 
 same-length : tie.Need-same-length
