@@ -15,4 +15,7 @@ abbrev pub smallRoom : ℕ
 smallRoom = 2048
 
 abbrev pub middleRoom : ℕ
-middleRoom = 4096
+middleRoom = 3072
+
+abbrev pub largeRoom : ℕ
+largeRoom = 12288

@@ -5,7 +5,7 @@ ghost use lib.ListN.{length};
 ghost use Rattle.sheet.specs.Sizes.{encodedAll, capacityAll};
 ghost use Rattle.opening.specs.Opened.{Opens};
 ghost use Rattle.frame.specs.Frame.{bitFrame};
-ghost use Rattle.frame.specs.Room.{Room, smallRoom, middleRoom};
+ghost use Rattle.frame.specs.Room.{Room, smallRoom, middleRoom, largeRoom};
 use counters::FrameNumber;
 use opening::Opened;
 use opening::capacity;
@@ -15,7 +15,9 @@ use sheet::counts::MOST_BITS;
 // The rooms of specs/Room.antt.
 pub const SMALL: usize = 2048;
 
-pub const MIDDLE: usize = 4096;
+pub const MIDDLE: usize = 3072;
+
+pub const LARGE: usize = 12288;
 
 // The multiplexed bits stand where the frame will, so that one room serves a segment and then the interleaved bits.
 fn build_within(
@@ -71,6 +73,14 @@ fn build_middle(contents: &[u8], opened: Opened, frame: FrameNumber, out: &mut [
 }
 
 fn build_large(contents: &[u8], opened: Opened, frame: FrameNumber, out: &mut [u8])
+    requires { ⌜ Opens opened × (length (now contents) ≡ encodedAll (opened .fields)) × Room (opened .fields) largeRoom × (length (now out) ≡ capacityAll (opened .fields)) ⌝ }
+    ensures { λ _. ⌜ now (out .exit) ≡ bitFrame (opened .fields) (frame .0) (now (contents .entry)) ⌝ }
+{
+    let mut room = [0u8; LARGE];
+    build_within(contents, opened, frame, &mut room, out);
+}
+
+fn build_whole(contents: &[u8], opened: Opened, frame: FrameNumber, out: &mut [u8])
     requires { ⌜ Opens opened × (length (now contents) ≡ encodedAll (opened .fields)) × (length (now out) ≡ capacityAll (opened .fields)) ⌝ }
     ensures { λ _. ⌜ now (out .exit) ≡ bitFrame (opened .fields) (frame .0) (now (contents .entry)) ⌝ }
 {
@@ -87,7 +97,9 @@ pub fn build_bits(contents: &[u8], opened: Opened, frame: FrameNumber, out: &mut
         build_small(contents, opened, frame, out);
     } else if most <= MIDDLE as u64 {
         build_middle(contents, opened, frame, out);
-    } else {
+    } else if most <= LARGE as u64 {
         build_large(contents, opened, frame, out);
+    } else {
+        build_whole(contents, opened, frame, out);
     }
 }

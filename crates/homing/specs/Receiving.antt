@@ -41,3 +41,6 @@ smallFrame = 512
 
 abbrev pub middleFrame : ℕ
 middleFrame = 4096
+
+abbrev pub largeFrame : ℕ
+largeFrame = 16384

@@ -8,7 +8,7 @@ ghost use Rattle.opening.specs.Opened.{Opens};
 ghost use Rattle.homing.specs.Gather.{gathered};
 ghost use Rattle.homing.specs.Home.{partOf};
 ghost use Rattle.homing.specs.Taking.{hearIn, surveyIn};
-ghost use Rattle.homing.specs.Receiving.{Askable, noLink, receptionOf, receivedInto, smallFrame, middleFrame};
+ghost use Rattle.homing.specs.Receiving.{Askable, noLink, receptionOf, receivedInto, smallFrame, middleFrame, largeFrame};
 use crate::gathering::gather_values;
 use crate::taking::hear_channel;
 use crate::taking::survey_channel;
@@ -23,6 +23,8 @@ use sheet::counts::MOST_BITS;
 pub const SMALL: usize = 512;
 
 pub const MIDDLE: usize = 4096;
+
+pub const LARGE: usize = 16384;
 
 // Every channel's segment; what was heard of a bit of a channel's segment; a channel's link record. Channels and bits are counted from 0.
 pub enum Asked {
@@ -174,6 +176,30 @@ fn receive_large(
     asked: Asked,
     joined: &mut [f32],
 ) -> Reception
+    requires { ⌜ Opens opened × (length (now frame) ≡ capacityAll (opened .fields)) × Askable (opened .fields) asked (length (now joined)) × (length (now frame) ≤ largeFrame) ⌝ }
+    ensures { λ r. ⌜ (r ≡ receptionOf (opened .fields) (number .0) (gathered nan (opened .fields) (now (frame .entry))) asked) × (now (joined .exit) ≡ receivedInto (opened .fields) (number .0) (gathered nan (opened .fields) (now (frame .entry))) asked (now (joined .entry))) ⌝ }
+{
+    let mut room = [1.0f32; LARGE];
+    let mut values = [1.0f32; LARGE];
+    let n = frame.len();
+    receive_within(
+        frame,
+        opened,
+        number,
+        asked,
+        &mut room[..n],
+        &mut values[..n],
+        joined,
+    )
+}
+
+fn receive_whole(
+    frame: &[f32],
+    opened: Opened,
+    number: FrameNumber,
+    asked: Asked,
+    joined: &mut [f32],
+) -> Reception
     requires { ⌜ Opens opened × (length (now frame) ≡ capacityAll (opened .fields)) × Askable (opened .fields) asked (length (now joined)) ⌝ }
     ensures { λ r. ⌜ (r ≡ receptionOf (opened .fields) (number .0) (gathered nan (opened .fields) (now (frame .entry))) asked) × (now (joined .exit) ≡ receivedInto (opened .fields) (number .0) (gathered nan (opened .fields) (now (frame .entry))) asked (now (joined .entry))) ⌝ }
 {
@@ -206,7 +232,9 @@ pub fn receive(
         receive_small(frame, opened, number, asked, joined)
     } else if frame.len() <= MIDDLE {
         receive_middle(frame, opened, number, asked, joined)
-    } else {
+    } else if frame.len() <= LARGE {
         receive_large(frame, opened, number, asked, joined)
+    } else {
+        receive_whole(frame, opened, number, asked, joined)
     }
 }

@@ -1,4 +1,4 @@
-use Rattle.frame.specs.Room.{smallRoom, middleRoom}
+use Rattle.frame.specs.Room.{smallRoom, middleRoom, largeRoom}
 use Rattle.frame.proofs.RoomLaws.{room-more}
 use borrow.Author.Needs.{needs}
 use Rattle.frame.proofs.building.build_bits.Statement.{statement}
@@ -20,7 +20,13 @@ build-middle-requires c κs =
     (s .pre .0, s .pre .1, room-more (s .args .opened .fields) (r .room-for .result) middleRoom (r .room-for .ensures) (c .before .if2 .taken), s .pre .2)
 
 build-large-requires : tie.Need-build-large-requires
-build-large-requires c κs = search needs
+build-large-requires c κs =
+    let r = c .before .before .before .before in
+    let s = r .before .before .before in
+    (s .pre .0, s .pre .1, room-more (s .args .opened .fields) (r .room-for .result) largeRoom (r .room-for .ensures) (c .before .if3 .taken), s .pre .2)
+
+build-whole-requires : tie.Need-build-whole-requires
+build-whole-requires c κs = search needs
 
 same-length : tie.Need-same-length
 same-length c = search needs
@@ -40,6 +46,12 @@ same-length-3 c = search needs
 returns-3 : tie.Need-returns-3
 returns-3 c = search needs
 
+same-length-4 : tie.Need-same-length-4
+same-length-4 c = search needs
+
+returns-4 : tie.Need-returns-4
+returns-4 c = search needs
+
 pub build-bits-spec : {M : Type 1} → statement M
 build-bits-spec =
     tie.close
@@ -48,9 +60,12 @@ build-bits-spec =
     build-small-requires
     build-middle-requires
     build-large-requires
+    build-whole-requires
     same-length
     returns
     same-length-2
     returns-2
     same-length-3
-    returns-3)
+    returns-3
+    same-length-4
+    returns-4)

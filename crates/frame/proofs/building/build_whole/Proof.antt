@@ -1,8 +1,8 @@
 use Rattle.sheet.specs.Counts.{mostBits}
 use Rattle.frame.proofs.RoomLaws.{room-most, room-of}
 use borrow.Author.Needs.{needs}
-use Rattle.frame.proofs.building.build_large.Statement.{statement}
-use Rattle.frame.proofs.building.build_large.Tie as tie
+use Rattle.frame.proofs.building.build_whole.Statement.{statement}
+use Rattle.frame.proofs.building.build_whole.Tie as tie
 
 slice-aggregate-build-within : tie.Need-slice-aggregate-build-within
 slice-aggregate-build-within c = search needs
@@ -18,6 +18,6 @@ same-length c = search needs
 returns : tie.Need-returns
 returns c = search needs
 
-pub build-large-spec : {M : Type 1} → statement M
-build-large-spec =
+pub build-whole-spec : {M : Type 1} → statement M
+build-whole-spec =
     tie.close (tie.spec slice-aggregate-build-within build-within-requires same-length returns)

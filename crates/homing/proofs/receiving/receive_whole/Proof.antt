@@ -7,8 +7,8 @@ use Rattle.sheet.specs.Counts.{mostBits}
 use Rattle.opening.proofs.OpenLaws.{capacity-most}
 use Rattle.frame.proofs.RoomLaws.{room-part}
 use borrow.Author.Needs.{needs}
-use Rattle.homing.proofs.receiving.receive_large.Statement.{statement}
-use Rattle.homing.proofs.receiving.receive_large.Tie as tie
+use Rattle.homing.proofs.receiving.receive_whole.Statement.{statement}
+use Rattle.homing.proofs.receiving.receive_whole.Tie as tie
 
 fits : (c : tie.Start) → length (c .args .frame .now) ≤ mostBits
 fits c = omega (arith, c .pre .1, capacity-most (c .args .opened .fields) (c .pre .0 .accepted))
@@ -41,8 +41,8 @@ same-length c = search needs
 returns : tie.Need-returns
 returns c = search needs
 
-pub receive-large-spec : {M : Type 1} → statement M
-receive-large-spec =
+pub receive-whole-spec : {M : Type 1} → statement M
+receive-whole-spec =
     tie.close
     (tie.spec
     array-borrow-prefix-room
