@@ -1,7 +1,7 @@
 use Prim.Native.Nat.{_+_, _-_, _≤_}
 use borrow.Author.Needs.{needs}
-use Rattle.tour.proofs.say_places.Statement.{statement}
-use Rattle.tour.proofs.say_places.Tie as tie
+use Rattle.tour.proofs.saying.say_places.Statement.{statement}
+use Rattle.tour.proofs.saying.say_places.Tie as tie
 
 abbrev Inv-loop : tie.InvT-loop
 Inv-loop sheet number slot phch n place₀ place = place ≤ n + 1

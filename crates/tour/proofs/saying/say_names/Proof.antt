@@ -1,8 +1,8 @@
 use Prim.Native.Nat.{_≤_, _-_}
 use Rattle.sheet.specs.Counts.{mostCapacities}
 use borrow.Author.Needs.{needs}
-use Rattle.tour.proofs.say_names.Statement.{statement}
-use Rattle.tour.proofs.say_names.Tie as tie
+use Rattle.tour.proofs.saying.say_names.Statement.{statement}
+use Rattle.tour.proofs.saying.say_names.Tie as tie
 
 abbrev Inv-loop : tie.InvT-loop
 Inv-loop sheet number caps m₀ t9 m = m ≤ mostCapacities

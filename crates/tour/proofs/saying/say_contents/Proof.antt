@@ -3,8 +3,8 @@ use Prim.Native.Nat.{_≤_, _-_}
 use lib.ListN.{length}
 use Rattle.sheet.specs.Counts.{mostChannels}
 use borrow.Author.Needs.{needs}
-use Rattle.tour.proofs.say_contents.Statement.{statement}
-use Rattle.tour.proofs.say_contents.Tie as tie
+use Rattle.tour.proofs.saying.say_contents.Statement.{statement}
+use Rattle.tour.proofs.saying.say_contents.Tie as tie
 
 abbrev Inv-loop : tie.InvT-loop
 Inv-loop contents e from₀ i₀ from i = from ≤ length contents

@@ -1,7 +1,7 @@
 use Prim.Native.Nat.{_≤_, _-_}
 use borrow.Author.Needs.{needs}
-use Rattle.tour.proofs.copies.Statement.{statement}
-use Rattle.tour.proofs.copies.Tie as tie
+use Rattle.tour.proofs.home.copies.Statement.{statement}
+use Rattle.tour.proofs.home.copies.Tie as tie
 
 abbrev Inv-loop : tie.InvT-loop
 Inv-loop value sum₀ n₀ sum n = n ≤ 9

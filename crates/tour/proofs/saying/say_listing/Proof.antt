@@ -2,8 +2,8 @@ use mathlib.Core.Path.{sym}
 use lib.Seq.{length-take-le}
 use Rattle.listing.proofs.ListLaws.{text-holds}
 use borrow.Author.Needs.{needs}
-use Rattle.tour.proofs.say_listing.Statement.{statement}
-use Rattle.tour.proofs.say_listing.Tie as tie
+use Rattle.tour.proofs.saying.say_listing.Statement.{statement}
+use Rattle.tour.proofs.saying.say_listing.Tie as tie
 
 list-sheet-requires : tie.Need-list-sheet-requires
 list-sheet-requires c κs = search needs

@@ -2,8 +2,8 @@ use mathlib.Core.Path.{_≡_}
 use Prim.Native.Nat.{_-_}
 use lib.ListN.{length}
 use borrow.Author.Needs.{needs}
-use Rattle.tour.proofs.send_before.Statement.{statement}
-use Rattle.tour.proofs.send_before.Tie as tie
+use Rattle.tour.proofs.home.send_before.Statement.{statement}
+use Rattle.tour.proofs.home.send_before.Tie as tie
 
 abbrev Inv-loop : tie.InvT-loop
 Inv-loop sheet first number contents frame₀ heard₀ joined₀ none n₀ frame heard joined n =

@@ -1,8 +1,8 @@
 use mathlib.Core.Path.{sym}
 use lib.Seq.{length-take-le}
 use borrow.Author.Needs.{needs}
-use Rattle.tour.proofs.say_channel.Statement.{statement}
-use Rattle.tour.proofs.say_channel.Tie as tie
+use Rattle.tour.proofs.home.say_channel.Statement.{statement}
+use Rattle.tour.proofs.home.say_channel.Tie as tie
 
 slice-relend-prefix-say-finished : tie.Need-slice-relend-prefix-say-finished
 slice-relend-prefix-say-finished c = search needs

@@ -2,8 +2,8 @@ use mathlib.Core.Path.{_≡_}
 use Prim.Native.Nat.{_≤_, _-_}
 use lib.ListN.{length}
 use borrow.Author.Needs.{needs}
-use Rattle.tour.proofs.hear.Statement.{statement}
-use Rattle.tour.proofs.hear.Tie as tie
+use Rattle.tour.proofs.home.hear.Statement.{statement}
+use Rattle.tour.proofs.home.hear.Tie as tie
 
 abbrev Inv-loop : tie.InvT-loop
 Inv-loop frame silence heard₀ i₀ heard i = (i ≤ length frame) × (length heard ≡ length heard₀)

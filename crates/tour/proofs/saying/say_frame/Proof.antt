@@ -3,8 +3,8 @@ use Prim.Native.Nat.{_≤_, _-_}
 use lib.ListN.{length}
 use Rattle.sheet.specs.Counts.{mostCapacities}
 use borrow.Author.Needs.{needs}
-use Rattle.tour.proofs.say_frame.Statement.{statement}
-use Rattle.tour.proofs.say_frame.Tie as tie
+use Rattle.tour.proofs.saying.say_frame.Statement.{statement}
+use Rattle.tour.proofs.saying.say_frame.Tie as tie
 
 abbrev Inv-loop : tie.InvT-loop
 Inv-loop frame caps from₀ m₀ t7 from m = from ≤ length frame

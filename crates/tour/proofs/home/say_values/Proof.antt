@@ -1,8 +1,8 @@
 use Prim.Native.Nat.{_≤_, _-_}
 use lib.ListN.{length}
 use borrow.Author.Needs.{needs}
-use Rattle.tour.proofs.say_values.Statement.{statement}
-use Rattle.tour.proofs.say_values.Tie as tie
+use Rattle.tour.proofs.home.say_values.Statement.{statement}
+use Rattle.tour.proofs.home.say_values.Tie as tie
 
 abbrev Inv-loop : tie.InvT-loop
 Inv-loop values i₀ i = i ≤ length values

@@ -4,8 +4,8 @@ use Prim.Native.Nat.{_-_}
 use lib.ListN.{length}
 use Rattle.sheet.specs.Counts.{mostChannels}
 use borrow.Author.Needs.{needs}
-use Rattle.tour.proofs.say_home.Statement.{statement}
-use Rattle.tour.proofs.say_home.Tie as tie
+use Rattle.tour.proofs.home.say_home.Statement.{statement}
+use Rattle.tour.proofs.home.say_home.Tie as tie
 
 abbrev Inv-loop : tie.InvT-loop
 Inv-loop sheet joined room₀ e i₀ room i = length room ≡ length room₀
