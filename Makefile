@@ -28,7 +28,7 @@ endif
 CFLAGS := -static -O2 -std=c11 -Wall -Wextra -Werror -Iinclude
 ARCHIVE := target/staticlib/libummervia.a
 LISTER := target/bin/lister
-REFERENCE := tests/reference.c tests/reference.h tests/reference-steps.h tests/implementation.h
+REFERENCE := $(wildcard tests/reference*) tests/implementation.h
 SOURCES := crates.txt $(shell find crates -type f)
 
 help:
