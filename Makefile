@@ -111,7 +111,7 @@ setup:
 
 target/c/%: tests/%.c include/ummervia.h $(ARCHIVE)
 	@mkdir -p $(@D)
-	$(CC) $(CFLAGS) $(filter %.c %.a,$^) -o $@
+	$(CC) $(CFLAGS) $(filter %.c,$^) $(ARCHIVE) -o $@
 
 target/c/%: examples/%.c include/ummervia.h $(ARCHIVE)
 	@mkdir -p $(@D)
@@ -121,7 +121,9 @@ target/c/%: bench/%.c include/ummervia.h $(ARCHIVE)
 	@mkdir -p $(@D)
 	$(CC) $(CFLAGS) -O3 $(filter %.c %.a,$^) -o $@
 
+# What a program has beside the file of its name.
 target/c/vectors target/c/random target/c/bench: $(REFERENCE)
+target/c/vectors: tests/call.c tests/call.h
 target/c/calls target/c/random: tests/fields.h
 
 $(ARCHIVE): $(SOURCES)

@@ -1,7 +1,6 @@
 /*
  * The public calls as a table of functions, once for the library and once for the reference, so that one test runs on
- * either. A call that an implementation does not have is null. That a table fits `struct implementation` ties the
- * header and the reference to the same signatures.
+ * either. That a table fits `struct implementation` ties the header and the reference to the same signatures.
  */
 #ifndef IMPLEMENTATION_H
 #define IMPLEMENTATION_H

@@ -4,8 +4,7 @@
  *
  * A byte slice is hex; 16-bit values are four digits each; a float is eight digits, its bit pattern; an empty slice is
  * `-`; numbers are decimal. A slice that the call writes stands among the arguments as it is before, and in the answer
- * as it is after the call. Empty lines and lines that begin with `#` say nothing. To add a call: write its run_NAME and
- * give it a line in `calls`.
+ * as it is after the call. Empty lines and lines that begin with `#` say nothing.
  */
 #define _POSIX_C_SOURCE 200809L
 #include <stdarg.h>
@@ -14,17 +13,14 @@
 #include <stdlib.h>
 #include <string.h>
 
-#include "implementation.h"
+#include "call.h"
 
 enum {
     GUARD = 64,        /* bytes before and behind each lent slice: a multiple of every alignment */
     GUARD_BYTE = 0xa5, /* what they hold */
     MOST_SHOWN = 20,   /* differences printed */
-    MOST_SLICES = 4,   /* slices that one call is lent */
     MOST_NAMES = 32    /* different calls that are not known */
 };
-
-static const uint64_t UNWRITTEN = 0xa5a5a5a5a5a5a5a5u; /* an answer before the call: the call must write it */
 
 /* A slice lent to a call, between its guards, with its bytes as they are to be after the call. */
 struct slice {
@@ -129,10 +125,6 @@ static void next_arrow(struct line *line)
 /* The next argument as a slice of values of `unit` bytes, expected to stay as it is unless expect_written follows. */
 static struct slice *lend(struct line *line, size_t unit)
 {
-    if (line->slice_count == MOST_SLICES) {
-        fputs("vectors: MOST_SLICES is too small\n", stderr);
-        exit(2);
-    }
     struct slice *slice = &line->slices[line->slice_count++];
     slice->unit = unit;
     slice->expected = next_values(line, unit, &slice->count);
@@ -197,238 +189,49 @@ static void compare_slice(struct line *line, size_t which)
 
 /* ---- The calls ---- */
 
-static float unwritten_float(void)
+/* The slices and numbers before the arrow. Answers the slice that the call writes, or null. */
+static struct slice *read_given(struct line *line, const struct call *call, struct given *given)
 {
-    float value;
-    memcpy(&value, &UNWRITTEN, sizeof value);
-    return value;
+    struct slice *written = NULL;
+    size_t slices = 0, whole = 0;
+    for (const char *parameter = call->parameters; *parameter != '\0'; parameter++) {
+        if (*parameter == 'w') {
+            given->whole[whole++] = (uint32_t)next_number(line);
+        } else if (*parameter == 'l') {
+            given->length = next_number(line);
+        } else {
+            struct slice *slice = lend(line, unit_of(*parameter));
+            given->slices[slices].start = start(slice);
+            given->slices[slices++].count = slice->count;
+            written = is_written(*parameter) ? slice : written;
+        }
+    }
+    return written;
 }
 
-static void run_read(struct line *line)
+static void run_call(struct line *line, const struct call *call)
 {
-    struct slice *sheet = lend(line, 1), *fields = lend(line, 2);
-    uint64_t at = UNWRITTEN;
+    struct given given = {.length = 0};
+    struct answer answer = unwritten();
+    struct slice *written = read_given(line, call, &given);
     next_arrow(line);
-    expect(line, "number", tested->sheet_read(start(sheet), sheet->count, start(fields), fields->count, &at));
-    expect(line, "at", at);
-    expect_written(line, fields);
+    expect(line, "number", call->run(tested, &given, &answer));
+    for (size_t i = 0; call->answers[i] != '\0'; i++)
+        if (call->answers[i] == 's')
+            expect_float(line, call->answer_names[i], answer.at[i].soft);
+        else
+            expect(line, call->answer_names[i], answer.at[i].whole);
+    if (written != NULL)
+        expect_written(line, written);
 }
 
-static void run_length(struct line *line)
+/* The call of that name, or null. */
+static const struct call *call_named(const char *name)
 {
-    struct slice *fields = lend(line, 2);
-    uint64_t at = UNWRITTEN;
-    next_arrow(line);
-    expect(line, "number", tested->sheet_length(start(fields), fields->count, &at));
-    expect(line, "at", at);
-}
-
-static void run_write(struct line *line)
-{
-    struct slice *fields = lend(line, 2), *sheet = lend(line, 1);
-    uint64_t at = UNWRITTEN;
-    next_arrow(line);
-    expect(line, "number", tested->sheet_write(start(fields), fields->count, start(sheet), sheet->count, &at));
-    expect(line, "at", at);
-    expect_written(line, sheet);
-}
-
-static void run_sizes(struct line *line)
-{
-    struct slice *sheet = lend(line, 1);
-    uint64_t channels = UNWRITTEN, slots = UNWRITTEN, contents = UNWRITTEN, capacity = UNWRITTEN, joined = UNWRITTEN;
-    next_arrow(line);
-    expect(line, "number", tested->sizes(start(sheet), sheet->count, &channels, &slots, &contents, &capacity, &joined));
-    expect(line, "channels", channels);
-    expect(line, "slots", slots);
-    expect(line, "contents", contents);
-    expect(line, "capacity", capacity);
-    expect(line, "joined", joined);
-}
-
-static void run_channel(struct line *line)
-{
-    struct slice *sheet = lend(line, 1);
-    uint32_t trch = (uint32_t)next_number(line);
-    uint64_t f = UNWRITTEN, e = UNWRITTEN, n = UNWRITTEN, v = UNWRITTEN;
-    next_arrow(line);
-    expect(line, "number", tested->channel(start(sheet), sheet->count, trch, &f, &e, &n, &v));
-    expect(line, "F", f);
-    expect(line, "E", e);
-    expect(line, "N", n);
-    expect(line, "V", v);
-}
-
-static void run_build(struct line *line)
-{
-    struct slice *sheet = lend(line, 1);
-    uint32_t frame_number = (uint32_t)next_number(line);
-    struct slice *contents = lend(line, 1), *frame = lend(line, 1);
-    uint64_t at = UNWRITTEN;
-    next_arrow(line);
-    expect(line, "number",
-           tested->build(start(sheet), sheet->count, frame_number, start(contents), contents->count, start(frame),
-                         frame->count, &at));
-    expect(line, "at", at);
-    expect_written(line, frame);
-}
-
-static void run_multiplex(struct line *line)
-{
-    struct slice *sheet = lend(line, 1);
-    uint32_t frame_number = (uint32_t)next_number(line);
-    struct slice *contents = lend(line, 1), *multiplexed = lend(line, 1);
-    uint64_t at = UNWRITTEN;
-    next_arrow(line);
-    expect(line, "number",
-           tested->multiplex(start(sheet), sheet->count, frame_number, start(contents), contents->count,
-                             start(multiplexed), multiplexed->count, &at));
-    expect(line, "at", at);
-    expect_written(line, multiplexed);
-}
-
-static void run_spread(struct line *line)
-{
-    struct slice *sheet = lend(line, 1), *multiplexed = lend(line, 1), *frame = lend(line, 1);
-    uint64_t at = UNWRITTEN;
-    next_arrow(line);
-    expect(line, "number",
-           tested->spread(start(sheet), sheet->count, start(multiplexed), multiplexed->count, start(frame),
-                          frame->count, &at));
-    expect(line, "at", at);
-    expect_written(line, frame);
-}
-
-static void run_gather(struct line *line)
-{
-    struct slice *sheet = lend(line, 1), *frame = lend(line, 4), *multiplexed = lend(line, 4);
-    uint64_t at = UNWRITTEN;
-    next_arrow(line);
-    expect(line, "number",
-           tested->gather(start(sheet), sheet->count, start(frame), frame->count, start(multiplexed),
-                          multiplexed->count, &at));
-    expect(line, "at", at);
-    expect_written(line, multiplexed);
-}
-
-static void run_take(struct line *line)
-{
-    struct slice *sheet = lend(line, 1);
-    uint32_t frame_number = (uint32_t)next_number(line);
-    struct slice *frame = lend(line, 4), *joined = lend(line, 4);
-    uint64_t at = UNWRITTEN;
-    next_arrow(line);
-    expect(line, "number",
-           tested->take_back(start(sheet), sheet->count, frame_number, start(frame), frame->count, start(joined),
-                             joined->count, &at));
-    expect(line, "at", at);
-    expect_written(line, joined);
-}
-
-static void run_finish(struct line *line)
-{
-    struct slice *sheet = lend(line, 1);
-    uint32_t trch = (uint32_t)next_number(line);
-    struct slice *joined = lend(line, 4), *coded = lend(line, 4);
-    uint64_t at = UNWRITTEN;
-    next_arrow(line);
-    expect(line, "number",
-           tested->finish(start(sheet), sheet->count, trch, start(joined), joined->count, start(coded), coded->count,
-                          &at));
-    expect(line, "at", at);
-    expect_written(line, coded);
-}
-
-static void run_heard(struct line *line)
-{
-    struct slice *sheet = lend(line, 1);
-    uint32_t frame_number = (uint32_t)next_number(line);
-    struct slice *frame = lend(line, 4);
-    uint32_t trch = (uint32_t)next_number(line), bit = (uint32_t)next_number(line);
-    uint64_t at = UNWRITTEN, copies = UNWRITTEN;
-    float value = unwritten_float();
-    next_arrow(line);
-    expect(line, "number",
-           tested->heard(start(sheet), sheet->count, frame_number, start(frame), frame->count, trch, bit, &at, &value,
-                         &copies));
-    expect(line, "at", at);
-    expect_float(line, "value", value);
-    expect(line, "copies", copies);
-}
-
-static void run_link(struct line *line)
-{
-    struct slice *sheet = lend(line, 1);
-    uint32_t frame_number = (uint32_t)next_number(line);
-    struct slice *frame = lend(line, 4);
-    uint32_t trch = (uint32_t)next_number(line);
-    uint64_t at = UNWRITTEN, punctured = UNWRITTEN;
-    float least = unwritten_float(), greatest = unwritten_float();
-    next_arrow(line);
-    expect(line, "number",
-           tested->link(start(sheet), sheet->count, frame_number, start(frame), frame->count, trch, &at, &least,
-                        &greatest, &punctured));
-    expect(line, "at", at);
-    expect_float(line, "least", least);
-    expect_float(line, "greatest", greatest);
-    expect(line, "punctured", punctured);
-}
-
-static void run_name(struct line *line)
-{
-    struct slice *sheet = lend(line, 1);
-    uint32_t frame_number = (uint32_t)next_number(line), slot = (uint32_t)next_number(line);
-    uint32_t phch = (uint32_t)next_number(line), place = (uint32_t)next_number(line);
-    uint64_t trch = UNWRITTEN, bit = UNWRITTEN, copy = UNWRITTEN;
-    next_arrow(line);
-    expect(line, "number",
-           tested->name_of(start(sheet), sheet->count, frame_number, slot, phch, place, &trch, &bit, &copy));
-    expect(line, "TrCH", trch);
-    expect(line, "bit", bit);
-    expect(line, "copy", copy);
-}
-
-static void run_part(struct line *line)
-{
-    struct slice *sheet = lend(line, 1);
-    uint32_t trch = (uint32_t)next_number(line);
-    uint64_t multiplexed_len = next_number(line), first = UNWRITTEN, length = UNWRITTEN;
-    next_arrow(line);
-    expect(line, "number", tested->part(start(sheet), sheet->count, trch, multiplexed_len, &first, &length));
-    expect(line, "start", first);
-    expect(line, "length", length);
-}
-
-struct call {
-    const char *name;
-    void (*run)(struct line *);
-    bool here; /* whether the tested implementation has it */
-};
-
-/* The call of that name, with a null name if there is none. */
-static struct call call_named(const char *name)
-{
-    const struct call calls[] = {
-        {"read", run_read, tested->sheet_read},
-        {"length", run_length, tested->sheet_length},
-        {"write", run_write, tested->sheet_write},
-        {"sizes", run_sizes, tested->sizes},
-        {"channel", run_channel, tested->channel},
-        {"build", run_build, tested->build},
-        {"multiplex", run_multiplex, tested->multiplex},
-        {"spread", run_spread, tested->spread},
-        {"gather", run_gather, tested->gather},
-        {"take", run_take, tested->take_back},
-        {"finish", run_finish, tested->finish},
-        {"heard", run_heard, tested->heard},
-        {"link", run_link, tested->link},
-        {"name", run_name, tested->name_of},
-        {"part", run_part, tested->part},
-    };
-    for (size_t i = 0; i < sizeof calls / sizeof *calls; i++)
-        if (strcmp(name, calls[i].name) == 0)
-            return calls[i];
-    return (struct call){NULL, NULL, false};
+    for (size_t i = 0; i < CALLS; i++)
+        if (strcmp(name, calls[i].word) == 0)
+            return &calls[i];
+    return NULL;
 }
 
 /* ---- The file ---- */
@@ -474,12 +277,12 @@ static void run_line(char *text, unsigned long number)
     line.call = next_word(&line);
     if (*line.call == '\0' || *line.call == '#')
         return;
-    struct call call = call_named(line.call);
-    if (!call.here) {
+    const struct call *call = call_named(line.call);
+    if (call == NULL) {
         count_other(line.call);
         return;
     }
-    call.run(&line);
+    run_call(&line, call);
     finish_line(&line);
 }
 

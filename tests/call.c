@@ -1,0 +1,143 @@
+/* The table of the public calls: see call.h. */
+#include "call.h"
+
+#include <string.h>
+
+/* A slice as C passes it; a number; where an answer goes. */
+#define SLICE(k) given->slices[k].start, given->slices[k].count
+#define WHOLE(k) given->whole[k]
+#define ANSWER(k) &answer->at[k].whole
+#define SOFT(k) &answer->at[k].soft
+
+#define RUN(name) \
+    static uint32_t run_##name(const struct implementation *by, const struct given *given, struct answer *answer)
+
+RUN(sheet_read)
+{
+    return by->sheet_read(SLICE(0), SLICE(1), ANSWER(0));
+}
+
+RUN(sheet_length)
+{
+    return by->sheet_length(SLICE(0), ANSWER(0));
+}
+
+RUN(sheet_write)
+{
+    return by->sheet_write(SLICE(0), SLICE(1), ANSWER(0));
+}
+
+RUN(sizes)
+{
+    return by->sizes(SLICE(0), ANSWER(0), ANSWER(1), ANSWER(2), ANSWER(3), ANSWER(4));
+}
+
+RUN(channel)
+{
+    return by->channel(SLICE(0), WHOLE(0), ANSWER(0), ANSWER(1), ANSWER(2), ANSWER(3));
+}
+
+RUN(build)
+{
+    return by->build(SLICE(0), WHOLE(0), SLICE(1), SLICE(2), ANSWER(0));
+}
+
+RUN(multiplex)
+{
+    return by->multiplex(SLICE(0), WHOLE(0), SLICE(1), SLICE(2), ANSWER(0));
+}
+
+RUN(spread)
+{
+    return by->spread(SLICE(0), SLICE(1), SLICE(2), ANSWER(0));
+}
+
+RUN(name_of)
+{
+    return by->name_of(SLICE(0), WHOLE(0), WHOLE(1), WHOLE(2), WHOLE(3), ANSWER(0), ANSWER(1), ANSWER(2));
+}
+
+RUN(part)
+{
+    return by->part(SLICE(0), WHOLE(0), given->length, ANSWER(0), ANSWER(1));
+}
+
+RUN(gather)
+{
+    return by->gather(SLICE(0), SLICE(1), SLICE(2), ANSWER(0));
+}
+
+RUN(take_back)
+{
+    return by->take_back(SLICE(0), WHOLE(0), SLICE(1), SLICE(2), ANSWER(0));
+}
+
+RUN(finish)
+{
+    return by->finish(SLICE(0), WHOLE(0), SLICE(1), SLICE(2), ANSWER(0));
+}
+
+RUN(heard)
+{
+    return by->heard(SLICE(0), WHOLE(0), SLICE(1), WHOLE(1), WHOLE(2), ANSWER(0), SOFT(1), ANSWER(2));
+}
+
+RUN(link)
+{
+    return by->link(SLICE(0), WHOLE(0), SLICE(1), WHOLE(1), ANSWER(0), SOFT(1), SOFT(2), ANSWER(3));
+}
+
+/* The numbers 1 to 8 of a sheet, 2 to 8 of fields, and single ones; every call answers 0. */
+#define OF_SHEET 0x1ffu
+#define OF_FIELDS 0x1fdu
+#define FRAME_NUMBER (1u << UMV_FRAME_NUMBER)
+#define ABSENT (1u << UMV_ABSENT)
+#define LENGTH (1u << UMV_LENGTH)
+#define CONTENT (LENGTH | 1u << UMV_CONTENT)
+
+const struct call calls[CALLS] = {
+    {"umv_sheet_read", "read", "bF", "w", {"at"}, OF_SHEET | LENGTH, run_sheet_read},
+    {"umv_sheet_length", "length", "f", "w", {"at"}, OF_FIELDS | LENGTH, run_sheet_length},
+    {"umv_sheet_write", "write", "fB", "w", {"at"}, OF_FIELDS | LENGTH, run_sheet_write},
+    {"umv_sizes", "sizes", "b", "wwwww", {"channels", "slots", "contents", "capacity", "joined"}, OF_SHEET, run_sizes},
+    {"umv_channel", "channel", "bw", "wwww", {"F", "E", "N", "V"}, OF_SHEET | ABSENT, run_channel},
+    {"umv_build", "build", "bwbB", "w", {"at"}, OF_SHEET | FRAME_NUMBER | CONTENT, run_build},
+    {"umv_multiplex", "multiplex", "bwbB", "w", {"at"}, OF_SHEET | FRAME_NUMBER | CONTENT, run_multiplex},
+    {"umv_spread", "spread", "bbB", "w", {"at"}, OF_SHEET | CONTENT, run_spread},
+    {"umv_name", "name", "bwwww", "www", {"TrCH", "bit", "copy"}, OF_SHEET | FRAME_NUMBER | ABSENT, run_name_of},
+    {"umv_part", "part", "bwl", "ww", {"start", "length"}, OF_SHEET | ABSENT | LENGTH, run_part},
+    {"umv_gather", "gather", "bsS", "w", {"at"}, OF_SHEET | CONTENT, run_gather},
+    {"umv_take_back", "take", "bwsS", "w", {"at"}, OF_SHEET | FRAME_NUMBER | CONTENT, run_take_back},
+    {"umv_finish", "finish", "bwsS", "w", {"at"}, OF_SHEET | ABSENT | LENGTH, run_finish},
+    {"umv_heard", "heard", "bwsww", "wsw", {"at", "value", "copies"}, OF_SHEET | FRAME_NUMBER | ABSENT | CONTENT, run_heard},
+    {"umv_link", "link", "bwsw", "wssw", {"at", "least", "greatest", "punctured"}, OF_SHEET | FRAME_NUMBER | ABSENT | CONTENT, run_link},
+};
+
+size_t unit_of(char parameter)
+{
+    switch (parameter) {
+    case 'b':
+    case 'B':
+        return sizeof(uint8_t);
+    case 'f':
+    case 'F':
+        return sizeof(uint16_t);
+    case 's':
+    case 'S':
+        return sizeof(float);
+    default:
+        return 0;
+    }
+}
+
+bool is_written(char parameter)
+{
+    return parameter == 'B' || parameter == 'F' || parameter == 'S';
+}
+
+struct answer unwritten(void)
+{
+    struct answer answer;
+    memset(&answer, UNWRITTEN_BYTE, sizeof answer);
+    return answer;
+}
