@@ -124,7 +124,9 @@ target/c/%: bench/%.c include/ummervia.h $(ARCHIVE)
 # What a program has beside the file of its name.
 target/c/vectors target/c/random target/c/bench: $(REFERENCE)
 target/c/vectors: tests/call.c tests/call.h
-target/c/calls target/c/random: tests/fields.h
+target/c/calls: tests/refusals.c tests/sheets.c tests/sheets.h
+target/c/calls target/c/values: tests/check.c tests/check.h
+target/c/calls target/c/random: tests/fields.c tests/fields.h
 
 $(ARCHIVE): $(SOURCES)
 	rt staticlib ummervia

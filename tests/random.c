@@ -159,37 +159,6 @@ static void damage_fields(void)
         memset(&fields[UMV_FIELD_E], 0, 8 * sizeof *fields);
 }
 
-static void put(uint32_t value, uint32_t width)
-{
-    while (width-- > 0) {
-        sheet[sheet_bits / 8] |= (uint8_t)((value >> width & 1u) << (7 - sheet_bits % 8));
-        sheet_bits++;
-    }
-}
-
-/* The sheet of the fields, by the table of document 01. */
-static void pack(void)
-{
-    memset(sheet, 0, sizeof sheet);
-    sheet_bits = 0;
-    put(fields[UMV_FIELD_VERSION], 4);
-    put(fields[UMV_FIELD_MODE], 1);
-    put(fields[UMV_FIELD_CHANNELS] - 1u, 3);
-    put(fields[UMV_FIELD_SLOTS], 4);
-    put(0, 4);
-    for (uint32_t i = 0; i < fields[UMV_FIELD_CHANNELS]; i++) {
-        put(fields[UMV_FIELD_TTI + i], 2);
-        put(fields[UMV_FIELD_E + i], 14);
-        put(fields[UMV_FIELD_RM + i] - 1u, 8);
-    }
-    for (uint32_t t = 0; t < fields[UMV_FIELD_SLOTS]; t++) {
-        put(fields[UMV_FIELD_PHCHS + t] - 1u, 4);
-        for (uint32_t p = 0; p < fields[UMV_FIELD_PHCHS + t]; p++)
-            put(fields[UMV_FIELD_CAPACITIES + 16 * t + p], 12);
-    }
-    sheet_len = (sheet_bits + 7) / 8;
-}
-
 /* What only bytes can have wrong. */
 static void damage_sheet(void)
 {
@@ -213,7 +182,8 @@ static void random_sheet(void)
 {
     random_fields();
     damage_fields();
-    pack();
+    sheet_bits = pack(fields, sheet);
+    sheet_len = (sheet_bits + 7) / 8;
     damage_sheet();
     reference.sizes(sheet, sheet_len, &sizes.channels, &sizes.slots, &sizes.contents, &sizes.capacity, &sizes.joined);
 }

@@ -1,24 +1,10 @@
 /* values: what document 01 prints of frames, asked of the calls: the example, one bit sent 60,000 times, frame 255 and 256. */
-#include <stdbool.h>
-#include <stdio.h>
 #include <string.h>
 
+#include "check.h"
 #include "ummervia.h"
 
 enum { MOST = 60000 };
-
-static unsigned long checks, failures;
-
-#define CHECK(condition) check((condition), #condition, __LINE__)
-
-static void check(bool holds, const char *condition, int line)
-{
-    checks++;
-    if (!holds) {
-        failures++;
-        printf("tests/values.c:%d: not so: %s\n", line, condition);
-    }
-}
 
 static const uint8_t example[] = {0x10, 0x10, 0x00, 0x06, 0x00, 0x00, 0x04};
 
@@ -97,6 +83,5 @@ int main(void)
     test_example();
     test_frame_numbers();
     test_repeated();
-    printf("values: %lu checks, %lu failed\n", checks, failures);
-    return failures != 0;
+    return report("values");
 }

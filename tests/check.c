@@ -1,0 +1,25 @@
+/* See check.h. */
+#include "check.h"
+
+#include <stdio.h>
+
+enum { MOST_SHOWN = 20 }; /* failures printed */
+
+const char *subject = "";
+
+static unsigned long checks, failures;
+
+void check(bool holds, const char *condition, const char *file, int line)
+{
+    checks++;
+    if (holds)
+        return;
+    if (failures++ < MOST_SHOWN)
+        printf("%s:%d: not so: %s%s%s\n", file, line, condition, *subject ? ", of: " : "", subject);
+}
+
+int report(const char *test)
+{
+    printf("%s: %lu checks, %lu failed\n", test, checks, failures);
+    return failures != 0 || checks == 0;
+}

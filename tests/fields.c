@@ -1,0 +1,46 @@
+/* See fields.h. */
+#include "fields.h"
+
+#include <string.h>
+
+bool in_use(const uint16_t *fields, unsigned place)
+{
+    if (place < UMV_FIELD_TTI)
+        return true;
+    if (place < UMV_FIELD_PHCHS)
+        return (place - UMV_FIELD_TTI) % 8 < fields[UMV_FIELD_CHANNELS];
+    if (place < UMV_FIELD_CAPACITIES)
+        return place - UMV_FIELD_PHCHS < fields[UMV_FIELD_SLOTS];
+    unsigned t = (place - UMV_FIELD_CAPACITIES) / 16, p = (place - UMV_FIELD_CAPACITIES) % 16;
+    return t < fields[UMV_FIELD_SLOTS] && p < fields[UMV_FIELD_PHCHS + t];
+}
+
+static void put(uint8_t *sheet, size_t *bits, unsigned value, unsigned width)
+{
+    while (width-- > 0) {
+        sheet[*bits / 8] |= (uint8_t)((value >> width & 1u) << (7 - *bits % 8));
+        ++*bits;
+    }
+}
+
+size_t pack(const uint16_t *fields, uint8_t *sheet)
+{
+    size_t bits = 0;
+    memset(sheet, 0, UMV_SHEET_MOST);
+    put(sheet, &bits, fields[UMV_FIELD_VERSION], 4);
+    put(sheet, &bits, fields[UMV_FIELD_MODE], 1);
+    put(sheet, &bits, fields[UMV_FIELD_CHANNELS] - 1u, 3);
+    put(sheet, &bits, fields[UMV_FIELD_SLOTS], 4);
+    put(sheet, &bits, 0, 4);
+    for (unsigned i = 0; i < fields[UMV_FIELD_CHANNELS]; i++) {
+        put(sheet, &bits, fields[UMV_FIELD_TTI + i], 2);
+        put(sheet, &bits, fields[UMV_FIELD_E + i], 14);
+        put(sheet, &bits, fields[UMV_FIELD_RM + i] - 1u, 8);
+    }
+    for (unsigned t = 0; t < fields[UMV_FIELD_SLOTS]; t++) {
+        put(sheet, &bits, fields[UMV_FIELD_PHCHS + t] - 1u, 4);
+        for (unsigned p = 0; p < fields[UMV_FIELD_PHCHS + t]; p++)
+            put(sheet, &bits, fields[UMV_FIELD_CAPACITIES + 16 * t + p], 12);
+    }
+    return bits;
+}

@@ -1,0 +1,237 @@
+/* Part of calls: refusals of sheets and fields, in the order of their numbers. */
+#include <stdio.h>
+#include <string.h>
+
+#include "sheets.h"
+
+/* Sheets with one fault, and with two, of which the lower number is given. */
+static const struct {
+    uint32_t number;
+    const char *hex, *what;
+} sheet_faults[] = {
+    {1, "", "no byte"},
+    {1, "10", "one byte"},
+    {1, "20", "one byte; version 2"},
+    {2, "20 10 00 06 00 00 04", "version 2"},
+    {2, "f0 10 00 06 00 00 04", "version 15"},
+    {2, "00 00", "version 0; no slot"},
+    {2, "20 10", "version 2; length"},
+    {2, "20 11 00 06 00 00 04", "version 2; spare bit"},
+    {3, "10 00 00 06 00", "no slot"},
+    {3, "10 00", "no slot; length"},
+    {3, "17 0f 00 06 00", "no slot; spare bits"},
+    {4, "10 10", "nothing behind the head"},
+    {4, "10 10 00 06 00 00", "a byte less"},
+    {4, "10 10 00 06 00 00 04 00", "a byte more"},
+    {4, "10 11 00 06 00 00 04", "last spare bit"},
+    {4, "10 18 00 06 00 00 04", "first spare bit"},
+    {4, "10 10 00 06 00 10 04 00 41", "last padding bit"},
+    {4, "10 10 00 06 00 10 04 00 48", "first padding bit"},
+    {4, "10 10 00 06 00 00 00 00", "a byte more; capacity 0"},
+    {4, "10 10 00 06 00 10 00 00", "a byte less; capacity 0"},
+    {4, "10 11 00 06 00 00 00", "spare bit; capacity 0"},
+    {4, "10 10 00 06 00 10 04 00 01", "padding bit; capacity 0"},
+    {4, "13 11 3fff00 3fff00 3fff00 3fff00 0004", "spare bit; contents"},
+    {4, "10 10 00 00 00 00 04 00", "a byte more; no content"},
+    {5, "10 10 00 06 00 00 00", "capacity 0"},
+    {5, "10 10 00 06 00 10 04 00 00", "second capacity 0"},
+    {5, "13 10 3fff00 3fff00 3fff00 3fff00 0000", "capacity 0; contents"},
+    {5, "10f0 000600 0fff 0fff 0fff 0fff 0fff 0fff 0fff 0fff 0fff 0fff 0fff 0fff 0fff 0fff 1fff 0000",
+     "last capacity 0; capacities"},
+    {5, "10 10 00 00 00 00 00", "capacity 0; no content"},
+    {6, "13 10 3fff00 3fff00 3fff00 3fff00 0004", "contents"},
+    {6, "13f0 3fff00 3fff00 3fff00 3fff00"
+        "0fff 0fff 0fff 0fff 0fff 0fff 0fff 0fff 0fff 0fff 0fff 0fff 0fff 0fff 0fff",
+     "contents; capacities"},
+    {7, "10f0 000600 0fff 0fff 0fff 0fff 0fff 0fff 0fff 0fff 0fff 0fff 0fff 0fff 0fff 0fff 0fff", "capacities"},
+    {7, "10f0 000000 0fff 0fff 0fff 0fff 0fff 0fff 0fff 0fff 0fff 0fff 0fff 0fff 0fff 0fff 0fff",
+     "capacities; no content"},
+    {8, "10 10 00 00 00 00 04", "no content"},
+    {8, "11 10 c000 ff 0000 00 0004", "no content in two channels"},
+};
+
+static void test_sheet_faults(void)
+{
+    for (size_t i = 0; i < sizeof sheet_faults / sizeof *sheet_faults; i++) {
+        struct sheet sheet = sheet_of(sheet_faults[i].hex);
+        subject = sheet_faults[i].what;
+        expect_sheet_refused(sheet.bytes, sheet.length, sheet_faults[i].number);
+    }
+    subject = "";
+}
+
+enum { U = UMV_FIELD_CAPACITIES, E = UMV_FIELD_E };
+
+/* make_fields with up to three fields changed: one fault, and two, of which the lower number is given. */
+static const struct {
+    uint32_t number;
+    const char *what;
+    unsigned changes;
+    struct {
+        uint16_t place, value;
+    } set[3];
+} field_faults[] = {
+    {2, "version 0", 1, {{UMV_FIELD_VERSION, 0}}},
+    {2, "version 2; no slot", 2, {{UMV_FIELD_VERSION, 2}, {UMV_FIELD_SLOTS, 0}}},
+    {2, "version 17; mode 2", 2, {{UMV_FIELD_VERSION, 17}, {UMV_FIELD_MODE, 2}}},
+    {3, "no slot", 1, {{UMV_FIELD_SLOTS, 0}}},
+    {3, "no slot; mode 2", 2, {{UMV_FIELD_SLOTS, 0}, {UMV_FIELD_MODE, 2}}},
+    {3, "no slot; no channel", 2, {{UMV_FIELD_SLOTS, 0}, {UMV_FIELD_CHANNELS, 0}}},
+    {4, "mode 2", 1, {{UMV_FIELD_MODE, 2}}},
+    {4, "no channel", 1, {{UMV_FIELD_CHANNELS, 0}}},
+    {4, "9 channels", 1, {{UMV_FIELD_CHANNELS, 9}}},
+    {4, "16 slots", 1, {{UMV_FIELD_SLOTS, 16}}},
+    {4, "TTI 4", 1, {{UMV_FIELD_TTI + 2, 4}}},
+    {4, "E 16,384", 1, {{E + 2, 16384}}},
+    {4, "RM 0", 1, {{UMV_FIELD_RM + 2, 0}}},
+    {4, "RM 257", 1, {{UMV_FIELD_RM + 2, 257}}},
+    {4, "no PhCH", 1, {{UMV_FIELD_PHCHS + 3, 0}}},
+    {4, "17 PhCHs", 1, {{UMV_FIELD_PHCHS + 3, 17}}},
+    {4, "U 4,096", 1, {{U + 16 * 2 + 15, 4096}}},
+    {4, "capacity 0; TTI 4", 2, {{U, 0}, {UMV_FIELD_TTI, 4}}},
+    {4, "capacity 0; a later U 4,096", 2, {{U, 0}, {U + 16 * 3 + 1, 4096}}},
+    {4, "no content; RM 0", 3, {{E, 0}, {E + 1, 0}, {UMV_FIELD_RM, 0}}},
+    {5, "capacity 0", 1, {{U + 16 * 2 + 15, 0}}},
+    {5, "capacity 0 first", 3, {{U, 0}, {E, 16383}, {E + 1, 16383}}},
+};
+
+static void test_field_faults(void)
+{
+    for (size_t i = 0; i < sizeof field_faults / sizeof *field_faults; i++) {
+        uint16_t fields[UMV_FIELDS];
+        make_fields(fields);
+        for (unsigned k = 0; k < field_faults[i].changes; k++)
+            fields[field_faults[i].set[k].place] = field_faults[i].set[k].value;
+        subject = field_faults[i].what;
+        expect_fields_refused(fields, field_faults[i].number);
+    }
+    subject = "";
+}
+
+/* A count that is one too great draws 4 even where the places behind it would do as the fields it asks for. */
+static void test_counts(void)
+{
+    uint16_t fields[UMV_FIELDS];
+    make_longest(fields, 1);
+    fields[UMV_FIELD_E] = 1; /* the ninth TTI */
+    fields[UMV_FIELD_CHANNELS] = 9;
+    expect_fields_refused(fields, UMV_FORM);
+    make_longest(fields, 1); /* the sixteenth P is the first capacity */
+    fields[UMV_FIELD_SLOTS] = 16;
+    expect_fields_refused(fields, UMV_FORM);
+}
+
+/* The sums, 5 to 8, from fields; two at once, of which the lower number is given. */
+static void test_field_sums(void)
+{
+    uint16_t fields[UMV_FIELDS];
+    make_longest(fields, 251);
+    fields[UMV_FIELD_CAPACITIES + 239] = 0;
+    expect_fields_refused(fields, UMV_NO_CAPACITY); /* and capacities over 60,000 */
+    make_longest(fields, 251);
+    fields[UMV_FIELD_E] = 7501;
+    expect_fields_refused(fields, UMV_MUCH_CONTENT); /* and capacities over 60,000 */
+    memset(fields + UMV_FIELD_E, 0, 8 * sizeof *fields);
+    expect_fields_refused(fields, UMV_MUCH_CAPACITY); /* and no content */
+    make_longest(fields, 250);
+    fields[UMV_FIELD_E] = 7501;
+    expect_fields_refused(fields, UMV_MUCH_CONTENT);
+    memset(fields + UMV_FIELD_E, 0, 8 * sizeof *fields);
+    expect_fields_refused(fields, UMV_NO_CONTENT);
+    fields[UMV_FIELD_E + 7] = 1;
+    struct sheet sheet = sheet_with(fields);
+    expect_fields_written(fields, &sheet);
+}
+
+/* The number for make_fields with `value`, 65,535 or 0, at a place. */
+static uint32_t number_at(const uint16_t *fields, unsigned place, uint16_t value)
+{
+    if (!in_use(fields, place))
+        return UMV_OK;
+    if (place == UMV_FIELD_VERSION)
+        return UMV_VERSION;
+    if (value != 0)
+        return UMV_FORM;
+    if (place == UMV_FIELD_SLOTS)
+        return UMV_NO_SLOT;
+    if (place >= UMV_FIELD_CAPACITIES)
+        return UMV_NO_CAPACITY;
+    bool may_be_zero = place == UMV_FIELD_MODE || (place >= UMV_FIELD_TTI && place < UMV_FIELD_RM);
+    return may_be_zero ? UMV_OK : UMV_FORM;
+}
+
+/* 65,535 and 0 in each of the places, one by one. */
+static void test_each_place(uint16_t value)
+{
+    static char name[40];
+    for (unsigned place = 0; place < UMV_FIELDS; place++) {
+        uint16_t fields[UMV_FIELDS];
+        make_fields(fields);
+        uint32_t number = number_at(fields, place, value);
+        fields[place] = value;
+        snprintf(name, sizeof name, "%u at place %u", value, place);
+        subject = name;
+        struct sheet sheet = {{0}, 0};
+        if (number == UMV_OK) {
+            sheet = sheet_with(fields);
+            expect_fields_written(fields, &sheet);
+        } else {
+            expect_fields_refused(fields, number);
+        }
+    }
+    subject = "";
+}
+
+/* Fields that are not 283 draw 11 and are not looked at, whatever else is wrong. */
+static void test_field_count(void)
+{
+    static const size_t counts[] = {0, 1, 282, 284};
+    uint16_t good[UMV_FIELDS + 1], bad[UMV_FIELDS + 1] = {0};
+    uint8_t sheet[7] = {1, 2, 3, 4, 5, 6, 7}, before[7];
+    memcpy(before, sheet, sizeof sheet);
+    make_fields(good);
+    good[UMV_FIELDS] = 0;
+    for (size_t i = 0; i < sizeof counts / sizeof *counts; i++) {
+        CHECK(is_answer(length_of(good, counts[i]), UMV_LENGTH, 0));
+        CHECK(is_answer(length_of(bad, counts[i]), UMV_LENGTH, 0));
+        CHECK(is_answer(write_sheet(good, counts[i], sheet, sizeof sheet), UMV_LENGTH, 0));
+        CHECK(is_answer(write_sheet(bad, counts[i], sheet, sizeof sheet), UMV_LENGTH, 0));
+    }
+    CHECK(memcmp(sheet, before, sizeof sheet) == 0);
+}
+
+static void test_absent_channel(void)
+{
+    static const uint32_t absent[] = {0, 3, 8, 9, 256, 257, 65537, 0x80000001u, 0xffffffffu};
+    struct sheet sheet = sheet_of("11 10 0006 00 0004 01 000a");
+    for (size_t i = 0; i < sizeof absent / sizeof *absent; i++)
+        CHECK(channel_refused(channel_of(sheet.bytes, sheet.length, absent[i]), UMV_ABSENT));
+}
+
+/* The pointer of an empty slice is not followed. */
+static void test_null(void)
+{
+    struct sheet sheet = sheet_of("10 10 00 06 00 00 04");
+    uint16_t fields[UMV_FIELDS];
+    make_fields(fields);
+    CHECK(is_answer(read_sheet(NULL, 0, NULL, 0), UMV_SHORT, 0));
+    CHECK(is_answer(read_sheet(sheet.bytes, sheet.length, NULL, 0), UMV_LENGTH, 0));
+    CHECK(is_answer(length_of(NULL, 0), UMV_LENGTH, 0));
+    CHECK(is_answer(write_sheet(NULL, 0, NULL, 0), UMV_LENGTH, 0));
+    CHECK(is_answer(write_sheet(fields, UMV_FIELDS, NULL, 0), UMV_LENGTH, 0));
+    CHECK(sizes_refused(sizes_of(NULL, 0), UMV_SHORT));
+    CHECK(channel_refused(channel_of(NULL, 0, 1), UMV_SHORT));
+}
+
+void test_refusals(void)
+{
+    test_sheet_faults();
+    test_field_faults();
+    test_counts();
+    test_field_sums();
+    test_each_place(65535);
+    test_each_place(0);
+    test_field_count();
+    test_absent_channel();
+    test_null();
+}
