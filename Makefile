@@ -1,9 +1,9 @@
-# make run: a first look. make test: everything, as the gate runs it. make ctest: the edit loop. make bench. make stack. make clean.
+# make run: a first look. make test: everything, as the gate runs it. make ctest: the edit loop. make soak. make bench. make stack. make clean.
 # make install, make uninstall, [PREFIX=..] [DESTDIR=..]: the kit of a release.
 
 SHELL := /bin/bash
 .SHELLFLAGS := -eu -o pipefail -c
-.PHONY: help run test ctest bench stack setup clean
+.PHONY: help run test ctest soak bench stack setup clean
 .DEFAULT_GOAL := help
 .NOTPARALLEL: # rt works with all processors by itself, and rt ci removes target/
 
@@ -92,6 +92,10 @@ uninstall:
 	@rm -f $(MANUAL)/ummervia.3 $(CALLS:%=$(MANUAL)/%.3)
 	rm -rf $(PAPERS)
 
+# A million random calls, or CALLS, from a new seed, or SEED. The first difference ends it and says how to repeat it.
+soak: setup target/c/random
+	$(RUN) target/c/random $(or $(SEED),0x$$(od -An -N8 -tx8 /dev/urandom | tr -d ' ')) $(or $(CALLS),1000000)
+
 # Instructions, counted: the same table on every machine with these compilers. Beside what setup installs it needs qemu
 # and the machine's own gcc, for the plugin that counts.
 bench: setup target/c/bench
@@ -123,7 +127,9 @@ target/c/%: bench/%.c include/ummervia.h $(ARCHIVE)
 
 # What a program has beside the file of its name.
 target/c/vectors target/c/random target/c/bench: $(REFERENCE)
-target/c/vectors: tests/call.c tests/call.h
+target/c/vectors target/c/random: tests/call.c tests/call.h
+target/c/random: $(wildcard tests/random-*.c) tests/random.h tests/lent.c tests/lent.h
+target/c/random target/c/home: tests/chance.c tests/chance.h
 target/c/calls: tests/refusals.c tests/sheets.c tests/sheets.h
 target/c/calls target/c/values: tests/check.c tests/check.h
 target/c/calls target/c/random: tests/fields.c tests/fields.h

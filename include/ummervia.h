@@ -6,7 +6,9 @@
  * - It returns a number: UMV_OK (0), or why it was refused (enum umv_number). Where several reasons hold, the lowest
  *   number is given, except where a call says that it looks at a length before it can look at anything else.
  * - A slice is a pointer to its first value and a count of VALUES, not of bytes. Of an empty slice (count 0) the pointer
- *   is not followed.
+ *   is not followed and may have any value, null too.
+ * - Every other pointer must be aligned for its type: 2 bytes for uint16_t, 4 for float, 8 for uint64_t. No call asks for
+ *   more than that.
  * - The caller owns all memory, lends it for the time of the call, and nothing of it is kept after the call returns.
  *   No call allocates memory or keeps state, so calls may run at the same time from several threads, as long as what one
  *   of them writes is lent to no other.

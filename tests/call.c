@@ -87,30 +87,32 @@ RUN(link)
     return by->link(SLICE(0), WHOLE(0), SLICE(1), WHOLE(1), ANSWER(0), SOFT(1), SOFT(2), ANSWER(3));
 }
 
-/* The numbers 1 to 8 of a sheet, 2 to 8 of fields, and single ones; every call answers 0. */
+/* The numbers 0 to 8, of a sheet; 0 and 2 to 8, of fields; 0 to 9, of a sheet and a frame number; 10; 11; 11 and 12. */
 #define OF_SHEET 0x1ffu
 #define OF_FIELDS 0x1fdu
-#define FRAME_NUMBER (1u << UMV_FRAME_NUMBER)
+#define OF_FRAME 0x3ffu
 #define ABSENT (1u << UMV_ABSENT)
 #define LENGTH (1u << UMV_LENGTH)
 #define CONTENT (LENGTH | 1u << UMV_CONTENT)
 
 const struct call calls[CALLS] = {
-    {"umv_sheet_read", "read", "bF", "w", {"at"}, OF_SHEET | LENGTH, run_sheet_read},
-    {"umv_sheet_length", "length", "f", "w", {"at"}, OF_FIELDS | LENGTH, run_sheet_length},
-    {"umv_sheet_write", "write", "fB", "w", {"at"}, OF_FIELDS | LENGTH, run_sheet_write},
-    {"umv_sizes", "sizes", "b", "wwwww", {"channels", "slots", "contents", "capacity", "joined"}, OF_SHEET, run_sizes},
-    {"umv_channel", "channel", "bw", "wwww", {"F", "E", "N", "V"}, OF_SHEET | ABSENT, run_channel},
-    {"umv_build", "build", "bwbB", "w", {"at"}, OF_SHEET | FRAME_NUMBER | CONTENT, run_build},
-    {"umv_multiplex", "multiplex", "bwbB", "w", {"at"}, OF_SHEET | FRAME_NUMBER | CONTENT, run_multiplex},
-    {"umv_spread", "spread", "bbB", "w", {"at"}, OF_SHEET | CONTENT, run_spread},
-    {"umv_name", "name", "bwwww", "www", {"TrCH", "bit", "copy"}, OF_SHEET | FRAME_NUMBER | ABSENT, run_name_of},
-    {"umv_part", "part", "bwl", "ww", {"start", "length"}, OF_SHEET | ABSENT | LENGTH, run_part},
-    {"umv_gather", "gather", "bsS", "w", {"at"}, OF_SHEET | CONTENT, run_gather},
-    {"umv_take_back", "take", "bwsS", "w", {"at"}, OF_SHEET | FRAME_NUMBER | CONTENT, run_take_back},
-    {"umv_finish", "finish", "bwsS", "w", {"at"}, OF_SHEET | ABSENT | LENGTH, run_finish},
-    {"umv_heard", "heard", "bwsww", "wsw", {"at", "value", "copies"}, OF_SHEET | FRAME_NUMBER | ABSENT | CONTENT, run_heard},
-    {"umv_link", "link", "bwsw", "wssw", {"at", "least", "greatest", "punctured"}, OF_SHEET | FRAME_NUMBER | ABSENT | CONTENT, run_link},
+    {"umv_sheet_read", "read", "bF", "*F", "w", {"at"}, OF_SHEET | LENGTH, run_sheet_read},
+    {"umv_sheet_length", "length", "f", "F", "w", {"at"}, OF_FIELDS | LENGTH, run_sheet_length},
+    {"umv_sheet_write", "write", "fB", "FW", "w", {"at"}, OF_FIELDS | LENGTH, run_sheet_write},
+    {"umv_sizes", "sizes", "b", "*", "wwwww", {"channels", "slots", "contents", "capacity", "joined"}, OF_SHEET,
+     run_sizes},
+    {"umv_channel", "channel", "bc", "*", "wwww", {"F", "E", "N", "V"}, OF_SHEET | ABSENT, run_channel},
+    {"umv_build", "build", "bnbB", "*ED", "w", {"at"}, OF_FRAME | CONTENT, run_build},
+    {"umv_multiplex", "multiplex", "bnbB", "*ED", "w", {"at"}, OF_FRAME | CONTENT, run_multiplex},
+    {"umv_spread", "spread", "bbB", "*DD", "w", {"at"}, OF_SHEET | CONTENT, run_spread},
+    {"umv_name", "name", "bntpu", "*", "www", {"TrCH", "bit", "copy"}, OF_FRAME | ABSENT, run_name_of},
+    {"umv_part", "part", "bcl", "*", "ww", {"start", "length"}, OF_SHEET | ABSENT | LENGTH, run_part},
+    {"umv_gather", "gather", "bsS", "*DD", "w", {"at"}, OF_SHEET | CONTENT, run_gather},
+    {"umv_take_back", "take", "bnsS", "*DT", "w", {"at"}, OF_FRAME | CONTENT, run_take_back},
+    {"umv_finish", "finish", "bcsS", "*TC", "w", {"at"}, OF_SHEET | ABSENT | LENGTH, run_finish},
+    {"umv_heard", "heard", "bnscm", "*D", "wsw", {"at", "value", "copies"}, OF_FRAME | ABSENT | CONTENT, run_heard},
+    {"umv_link", "link", "bnsc", "*D", "wssw", {"at", "least", "greatest", "punctured"}, OF_FRAME | ABSENT | CONTENT,
+     run_link},
 };
 
 size_t unit_of(char parameter)
@@ -133,6 +135,14 @@ size_t unit_of(char parameter)
 bool is_written(char parameter)
 {
     return parameter == 'B' || parameter == 'F' || parameter == 'S';
+}
+
+char slice_of(const struct call *call, size_t slice)
+{
+    for (const char *parameter = call->parameters; *parameter != '\0'; parameter++)
+        if (unit_of(*parameter) != 0 && slice-- == 0)
+            return *parameter;
+    return '\0';
 }
 
 struct answer unwritten(void)

@@ -30,20 +30,24 @@ struct given {
     uint64_t length; /* the one number of 64 bits */
 };
 
-/* In the order of parameters, each a whole number or a float; no call may write what stands behind. */
+/* In the order of parameters, each a whole number or a float, aligned for its type and to nothing more. No call may write what
+   lies beside them. */
 struct answer {
     uint64_t number;
     struct {
         uint64_t whole, behind_whole;
-        float soft, behind_soft;
+        float before_soft, soft, behind_soft, more;
     } at[MOST_ANSWERS];
 };
 
 struct call {
     const char *name;
     const char *word;       /* its name in a vector file */
-    const char *parameters; /* a letter each: b bytes, f fields, s soft values, as capitals where the call writes them;
-                               w a whole number, l the length */
+    const char *parameters; /* a letter each. Slices: b bytes, f fields, s soft values, as capitals where the call writes
+                               them. Numbers of 32 bits: n a frame number, c a TrCH, t a slot, p a PhCH, u a place, m a bit
+                               of a segment. l: the length of 64 bits */
+    const char *lengths;    /* what each slice must have, a letter each: * any, F UMV_FIELDS, W the bytes of the fields'
+                               sheet, E the sum of E, D, T the sum of T_i, C the E of the TrCH */
     const char *answers;    /* a letter each: w a whole number, s a float */
     const char *answer_names[MOST_ANSWERS];
     uint32_t numbers; /* those it can answer, a bit each: the line 'Numbers:' of the header */
@@ -52,11 +56,17 @@ struct call {
 
 extern const struct call calls[CALLS];
 
+/* The index in `calls` of some of them. */
+enum { CALL_BUILD = 5, CALL_NAME = 8, CALL_PART = 9, CALL_HEARD = 13 };
+
 /* Bytes of a value of the slice that a letter of `parameters` stands for; 0 if it stands for a number. */
 size_t unit_of(char parameter);
 
 /* Whether the call writes the slice that a letter stands for. */
 bool is_written(char parameter);
+
+/* The letter of the slice with this index, or 0 if the call has not so many. */
+char slice_of(const struct call *call, size_t slice);
 
 /* Every byte UNWRITTEN_BYTE. */
 struct answer unwritten(void);

@@ -9,6 +9,7 @@
 #include <stdlib.h>
 #include <string.h>
 
+#include "chance.h"
 #include "ummervia.h"
 
 enum {
@@ -31,23 +32,6 @@ static bool check(bool holds, const char *condition, int line)
     if (!holds && differing++ < MOST_SHOWN)
         printf("home.c:%d: sheet %lu: not so: %s\n", line, sheets_made, condition);
     return holds;
-}
-
-/* ---- Chance: xorshift64* ---- */
-
-static uint64_t state = 0x2522200480706050;
-
-static uint32_t between(uint32_t low, uint32_t high)
-{
-    state ^= state >> 12;
-    state ^= state << 25;
-    state ^= state >> 27;
-    return low + (uint32_t)((state * 0x2545f4914f6cdd1du >> 32) % ((uint64_t)high - low + 1));
-}
-
-static bool one_in(uint32_t count)
-{
-    return between(1, count) == 1;
 }
 
 /* ---- The sheet at work ---- */
@@ -291,8 +275,9 @@ static unsigned not_met(void)
 int main(int argc, char **argv)
 {
     const unsigned long sheets = argc > 2 ? strtoul(argv[2], NULL, 0) : SHEETS;
-    state = argc > 1 ? strtoull(argv[1], NULL, 0) | 1 : state; /* never 0 */
-    printf("home: seed %#llx, %lu sheets\n", (unsigned long long)state, sheets);
+    const uint64_t seed = argc > 1 ? strtoull(argv[1], NULL, 0) : 0x2522200480706050;
+    printf("home: seed %#llx, %lu sheets\n", (unsigned long long)seed, sheets);
+    begin(seed, 0);
     while (sheets_made++ < sheets)
         if (random_sheet() && read_channels())
             there_and_back();

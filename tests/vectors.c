@@ -195,15 +195,15 @@ static struct slice *read_given(struct line *line, const struct call *call, stru
     struct slice *written = NULL;
     size_t slices = 0, whole = 0;
     for (const char *parameter = call->parameters; *parameter != '\0'; parameter++) {
-        if (*parameter == 'w') {
-            given->whole[whole++] = (uint32_t)next_number(line);
-        } else if (*parameter == 'l') {
-            given->length = next_number(line);
-        } else {
+        if (unit_of(*parameter) != 0) {
             struct slice *slice = lend(line, unit_of(*parameter));
             given->slices[slices].start = start(slice);
             given->slices[slices++].count = slice->count;
             written = is_written(*parameter) ? slice : written;
+        } else if (*parameter == 'l') {
+            given->length = next_number(line);
+        } else {
+            given->whole[whole++] = (uint32_t)next_number(line);
         }
     }
     return written;

@@ -1,0 +1,181 @@
+/* Part of random: counts what was met, call by call, and says what never was. */
+#include <stdio.h>
+#include <string.h>
+
+#include "fields.h"
+#include "lent.h"
+#include "random.h"
+
+enum { OFFSETS = 8 }; /* addresses modulo 8 */
+
+static struct {
+    unsigned long numbers[NUMBERS];
+    unsigned long kinds[KINDS];                  /* accepted on such a sheet, with such a channel */
+    unsigned long empty[MOST_SLICES];            /* empty slices whose length was looked at */
+    unsigned long places[MOST_SLICES][OFFSETS];  /* where slices were lent */
+    unsigned long greatest[MOST_WHOLE + 1];      /* 2^32 - 1 that drew 9 or 10; last, 2^64 - 1 that drew 11 */
+} met[CALLS];
+
+/* ---- Counting ---- */
+
+/* Whether the fields given are those of the sheet, of which the kinds are known. */
+static bool same_fields(const struct given *given)
+{
+    const uint16_t *fields = given->slices[0].start;
+    for (unsigned place = 0; place < UMV_FIELDS; place++)
+        if (in_use(drawn.fields, place) && fields[place] != drawn.fields[place])
+            return false;
+    return true;
+}
+
+/* The TrCH that the call asks for or answers, or 0. */
+static uint64_t trch_of(const struct call *call, const struct given *given, const struct answer *answer)
+{
+    size_t number = 0;
+    for (const char *parameter = call->parameters; *parameter != '\0'; parameter++) {
+        if (*parameter == 'c')
+            return given->whole[number];
+        number += unit_of(*parameter) == 0;
+    }
+    return call == &calls[CALL_NAME] ? answer->at[0].whole : 0;
+}
+
+static uint32_t kinds_of(const struct call *call, const struct given *given, const struct answer *answer)
+{
+    if (call->parameters[0] == 'f' && !same_fields(given))
+        return 0;
+    uint64_t trch = trch_of(call, given, answer);
+    uint32_t kinds = drawn.kinds;
+    for (uint32_t i = 0; i < drawn.channels; i++)
+        if (trch == 0 || trch == i + 1)
+            kinds |= drawn.channel_kinds[i];
+    return kinds;
+}
+
+static void count_empty(size_t call, const struct given *given, uint64_t number)
+{
+    for (size_t i = 0; slice_of(&calls[call], i) != '\0'; i++) {
+        bool looked_at = number == UMV_OK || number == UMV_LENGTH || (number == UMV_SHORT && i == 0);
+        met[call].empty[i] += looked_at && given->slices[i].count == 0;
+    }
+}
+
+static void count_greatest(size_t call, const struct given *given, uint64_t number)
+{
+    size_t numbers = 0;
+    for (const char *parameter = calls[call].parameters; *parameter != '\0'; parameter++) {
+        if (*parameter == 'l')
+            met[call].greatest[MOST_WHOLE] += number == UMV_LENGTH && given->length == UINT64_MAX;
+        else if (unit_of(*parameter) == 0) {
+            uint64_t drawn_by = *parameter == 'n' ? UMV_FRAME_NUMBER : UMV_ABSENT;
+            met[call].greatest[numbers] += number == drawn_by && given->whole[numbers] == UINT32_MAX;
+            numbers++;
+        }
+    }
+}
+
+void count_call(size_t call, const struct given *given, const struct answer *answer)
+{
+    met[call].numbers[answer->number]++;
+    count_empty(call, given, answer->number);
+    count_greatest(call, given, answer->number);
+    if (answer->number != UMV_OK)
+        return;
+    uint32_t kinds = kinds_of(&calls[call], given, answer);
+    for (int kind = 0; kind < KINDS; kind++)
+        met[call].kinds[kind] += kinds >> kind & 1;
+}
+
+void count_place(size_t call, size_t slice, const void *start)
+{
+    met[call].places[slice][(uintptr_t)start % OFFSETS]++;
+}
+
+/* ---- Reporting: tables with a row for each call; a cell answers whether its count is 0 and should not be ---- */
+
+static unsigned print_count(bool possible, unsigned long count)
+{
+    if (possible)
+        printf(" %6lu", count);
+    else
+        printf("      -");
+    return possible && count == 0;
+}
+
+static unsigned print_number(size_t call, size_t number)
+{
+    return print_count(calls[call].numbers >> number & 1, met[call].numbers[number]);
+}
+
+/* A bit of an empty channel is never there, so that two calls are never accepted on one. */
+static unsigned print_kind(size_t call, size_t kind)
+{
+    bool possible = kind != EMPTY || (call != CALL_NAME && call != CALL_HEARD);
+    return print_count(possible, met[call].kinds[kind]);
+}
+
+/* How often a slice was empty, and how often it lay at the rarest of the offsets that its type allows. */
+static unsigned print_slice(size_t call, size_t column)
+{
+    size_t slice = column / 2, unit = unit_of(slice_of(&calls[call], slice));
+    if (unit == 0 || column % 2 == 0)
+        return print_count(unit != 0, met[call].empty[slice]);
+    unsigned long least = met[call].places[slice][0];
+    for (size_t offset = unit; offset < OFFSETS; offset += unit)
+        least = met[call].places[slice][offset] < least ? met[call].places[slice][offset] : least;
+    return print_count(true, least);
+}
+
+/* How often the number of this letter was the greatest there is, and drew its refusal. */
+static unsigned print_greatest(size_t call, char letter)
+{
+    size_t numbers = 0;
+    for (const char *parameter = calls[call].parameters; *parameter != '\0'; parameter++) {
+        if (*parameter == letter)
+            return print_count(true, met[call].greatest[letter == 'l' ? MOST_WHOLE : numbers]);
+        numbers += unit_of(*parameter) == 0;
+    }
+    return print_count(false, 0);
+}
+
+static unsigned print_parameter(size_t call, size_t column)
+{
+    size_t of_slices = 2 * MOST_SLICES;
+    return column < of_slices ? print_slice(call, column) : print_greatest(call, "nctpuml"[column - of_slices]);
+}
+
+static unsigned print_table(const char *title, const char *const *heads, size_t columns,
+                            unsigned (*print)(size_t call, size_t column))
+{
+    unsigned missing = 0;
+    printf("\n%s\n%17s", title, "");
+    for (size_t column = 0; column < columns; column++)
+        printf(" %6s", heads[column]);
+    puts("");
+    for (size_t call = 0; call < CALLS; call++) {
+        unsigned here = 0;
+        printf("%-17s", calls[call].name);
+        for (size_t column = 0; column < columns; column++)
+            here += print(call, column);
+        puts(here != 0 ? "  NOT ALL MET" : "");
+        missing += here;
+    }
+    return missing;
+}
+
+unsigned report_met(void)
+{
+    static const char *const numbers[] = {"0", "1", "2", "3", "4", "5", "6", "7", "8", "9", "10", "11", "12"};
+    static const char *const kinds[] = {"mode 0", "mode 1", "394", "D", "T",
+                                        "E = 0",  "V < N",  "V = N", "V > N", "1,000"};
+    static const char *const parameters[] = {"1st",  "offset", "2nd",  "offset", "3rd", "offset", "frame",
+                                             "TrCH", "slot",   "PhCH", "place",  "bit", "length"};
+    unsigned missing = print_table("Numbers answered", numbers, NUMBERS, print_number);
+    missing += print_table("Accepted: sheets of both modes and of 394 bytes, D and sums of T_i of 60,000; channels that are\n"
+                           "empty, punctured, unaltered, repeated, and of which a bit is sent 1,000 times or more",
+                           kinds, KINDS, print_kind);
+    missing += print_table("Slices that were empty, each lent with a valid, a null and another pointer; slices at the rarest\n"
+                           "offset that their type allows; numbers of 2^32 - 1 and lengths of 2^64 - 1 that drew a refusal",
+                           parameters, sizeof parameters / sizeof *parameters, print_parameter);
+    return missing;
+}

@@ -1,0 +1,174 @@
+/* Part of random: a sheet is drawn. */
+#include <string.h>
+
+#include "chance.h"
+#include "fields.h"
+#include "random.h"
+
+struct drawn drawn;
+
+static uint16_t *const fields = drawn.fields;
+
+static void random_channels(uint32_t most_e)
+{
+    uint32_t channels = between(1, 8), most_rm = one_in(2) ? 256 : between(1, 8);
+    fields[UMV_FIELD_CHANNELS] = (uint16_t)channels;
+    for (uint32_t i = 0; i < channels; i++) {
+        fields[UMV_FIELD_TTI + i] = (uint16_t)between(0, 3);
+        fields[UMV_FIELD_E + i] = (uint16_t)(one_in(5) ? 0 : between(0, most_e));
+        fields[UMV_FIELD_RM + i] = (uint16_t)between(1, most_rm);
+    }
+}
+
+static void random_slots(uint32_t most_slots, uint32_t most_capacity)
+{
+    fields[UMV_FIELD_SLOTS] = (uint16_t)between(1, most_slots);
+    for (uint32_t t = 0; t < fields[UMV_FIELD_SLOTS]; t++) {
+        uint32_t phchs = between(1, 16), equal = one_in(3) ? between(1, most_capacity) : 0;
+        fields[UMV_FIELD_PHCHS + t] = (uint16_t)phchs;
+        for (uint32_t p = 0; p < phchs; p++) {
+            uint32_t capacity = equal != 0 ? equal : between(1, one_in(4) ? 3 : most_capacity);
+            fields[UMV_FIELD_CAPACITIES + 16 * t + p] = (uint16_t)capacity;
+        }
+    }
+}
+
+/* 15 slots of 16 PhCHs with 250 bits each: just 60,000 in sum, or one more. */
+static void fullest_slots(bool too_many)
+{
+    fields[UMV_FIELD_SLOTS] = 15;
+    for (uint32_t t = 0; t < 15; t++)
+        fields[UMV_FIELD_PHCHS + t] = 16;
+    for (uint32_t u = 0; u < 240; u++)
+        fields[UMV_FIELD_CAPACITIES + u] = 250;
+    if (too_many)
+        fields[UMV_FIELD_CAPACITIES + between(0, 239)]++;
+}
+
+/* 8 channels of 7,500 bits: just 60,000 equalised, since F divides 7,500, or more. */
+static void fullest_channels(bool too_many)
+{
+    fields[UMV_FIELD_CHANNELS] = 8;
+    for (uint32_t i = 0; i < 8; i++) {
+        fields[UMV_FIELD_TTI + i] = (uint16_t)between(0, 2);
+        fields[UMV_FIELD_E + i] = 7500;
+        fields[UMV_FIELD_RM + i] = (uint16_t)between(1, 256);
+    }
+    if (too_many)
+        fields[UMV_FIELD_E + between(0, 7)]++;
+}
+
+/* Channels of few bits, of which each is sent thousands of times in the greatest frame. */
+static void few_bits(void)
+{
+    fields[UMV_FIELD_CHANNELS] = (uint16_t)between(1, 2);
+    for (uint32_t i = 0; i < 2; i++) {
+        fields[UMV_FIELD_TTI + i] = (uint16_t)between(0, 3);
+        fields[UMV_FIELD_E + i] = (uint16_t)between(1, 8);
+        fields[UMV_FIELD_RM + i] = 1;
+    }
+}
+
+/* Fields in their ranges. Most frames are small, so that there is time for many; some are as great as there are. */
+static void random_fields(void)
+{
+    memset(fields, 0, sizeof drawn.fields);
+    fields[UMV_FIELD_VERSION] = 1;
+    fields[UMV_FIELD_MODE] = (uint16_t)between(0, 1);
+    uint32_t kind = between(1, 200);
+    if (kind <= 1) {
+        few_bits();
+        fullest_slots(false);
+    } else if (kind <= 5) {
+        fullest_channels(one_in(3));
+        fullest_slots(one_in(3));
+    } else if (kind <= 9) {
+        random_channels(16383);
+        random_slots(15, 4095);
+    } else if (kind <= 13) {
+        random_channels(one_in(2) ? 1 : 7000);
+        random_slots(3, 2000);
+    } else if (kind <= 80) {
+        random_channels(600);
+        random_slots(15, 40);
+    } else {
+        random_channels(one_in(2) ? 100 : 12);
+        random_slots(one_in(2) ? 15 : 2, one_in(2) ? 12 : 60);
+    }
+    /* One channel that fits exactly: d = 0. */
+    uint32_t first = fields[UMV_FIELD_CAPACITIES];
+    if (one_in(40)) {
+        fields[UMV_FIELD_CHANNELS] = fields[UMV_FIELD_SLOTS] = fields[UMV_FIELD_PHCHS] = 1;
+        fields[UMV_FIELD_E] = (uint16_t)(first << fields[UMV_FIELD_TTI] & 0x3fff);
+    }
+}
+
+/* Fields that name their refusal and still stand in a sheet. */
+static void damage_fields(void)
+{
+    if (one_in(60))
+        fields[UMV_FIELD_VERSION] = (uint16_t)between(0, 15);
+    if (one_in(60))
+        fields[UMV_FIELD_SLOTS] = 0;
+    if (one_in(40))
+        fields[UMV_FIELD_CAPACITIES + between(0, 15)] = 0;
+    if (one_in(40))
+        memset(&fields[UMV_FIELD_E], 0, 8 * sizeof *fields);
+}
+
+/* What only bytes can have wrong. */
+static void damage_sheet(size_t bits)
+{
+    uint8_t *sheet = drawn.sheet;
+    size_t length = drawn.packed_len;
+    if (one_in(40))
+        sheet[1] |= (uint8_t)between(1, 15); /* spare bits */
+    if (one_in(20) && bits % 8 != 0)
+        sheet[length - 1] |= (uint8_t)(1u << between(0, 7 - (uint32_t)(bits % 8))); /* padding */
+    if (one_in(40)) {
+        uint32_t bit = between(0, (uint32_t)bits - 1);
+        sheet[bit / 8] ^= (uint8_t)(0x80u >> bit % 8);
+    }
+    if (one_in(60))
+        length = between(0, (uint32_t)length);
+    if (one_in(60))
+        length += between(1, 3);
+    if (one_in(60))
+        length = between(0, 2);
+    drawn.sheet_len = length;
+}
+
+static uint32_t kinds_of_channel(uint32_t trch)
+{
+    uint64_t f, e, n, v;
+    reference.channel(drawn.sheet, drawn.sheet_len, trch, &f, &e, &n, &v);
+    return (uint32_t)(e == 0) << EMPTY | (uint32_t)(v < n) << PUNCTURED | (uint32_t)(v == n && n != 0) << EXACT |
+           (uint32_t)(v > n) << REPEATED | (uint32_t)(n != 0 && v >= 1000 * n) << MANY_TIMES;
+}
+
+/* What the reference says of the sheet. */
+static void measure(void)
+{
+    uint32_t number = reference.sizes(drawn.sheet, drawn.sheet_len, &drawn.channels, &drawn.slots, &drawn.contents,
+                                      &drawn.capacity, &drawn.joined);
+    drawn.kinds = 0;
+    memset(drawn.channel_kinds, 0, sizeof drawn.channel_kinds);
+    if (number != UMV_OK)
+        return;
+    bool by_slot = drawn.sheet[0] >> 3 & 1;
+    drawn.kinds = 1u << (by_slot ? BY_SLOT : OVER_FRAME) | (uint32_t)(drawn.sheet_len == UMV_SHEET_MOST) << LONGEST |
+                  (uint32_t)(drawn.capacity == 60000) << FULL_FRAME | (uint32_t)(drawn.joined == 60000) << FULL_JOINED;
+    for (uint32_t i = 0; i < drawn.channels; i++)
+        drawn.channel_kinds[i] = kinds_of_channel(i + 1);
+}
+
+void draw_sheet(void)
+{
+    memset(drawn.sheet, 0, sizeof drawn.sheet);
+    random_fields();
+    damage_fields();
+    size_t bits = pack(fields, drawn.sheet);
+    drawn.packed_len = (bits + 7) / 8;
+    damage_sheet(bits);
+    measure();
+}

@@ -1,0 +1,51 @@
+/* What the parts of random share: the sheet that was drawn, what a call is given on it, and what was met. */
+#ifndef RANDOM_H
+#define RANDOM_H
+
+#include "call.h"
+
+/* Kinds of sheet; the last five are kinds of channel. */
+enum kind {
+    OVER_FRAME,  /* mode 0 */
+    BY_SLOT,     /* mode 1 */
+    LONGEST,     /* 394 bytes: 8 channels, 15 slots of 16 PhCHs */
+    FULL_FRAME,  /* D is 60,000 */
+    FULL_JOINED, /* the sum of T_i is 60,000 */
+    EMPTY,       /* E is 0 */
+    PUNCTURED,   /* V below N */
+    EXACT,       /* V is N, and not 0 */
+    REPEATED,    /* V above N */
+    MANY_TIMES,  /* a bit is sent 1,000 times or more */
+    KINDS
+};
+
+/* The sheet at work. */
+struct drawn {
+    uint16_t fields[UMV_FIELDS]; /* before the sheet's bytes were damaged */
+    uint8_t sheet[2 * UMV_SHEET_MOST];
+    size_t sheet_len;
+    size_t packed_len; /* before they were damaged */
+    /* Of an accepted sheet, otherwise 0: */
+    uint64_t channels, slots, contents, capacity, joined;
+    uint32_t kinds;           /* a bit each */
+    uint32_t channel_kinds[8]; /* of each channel */
+};
+
+extern struct drawn drawn;
+
+/* Draws a sheet, good or damaged. */
+void draw_sheet(void);
+
+/* Draws what the call with this index is given on that sheet, good or damaged. The slices stay until the next one is drawn. */
+void draw_given(size_t call, struct given *given);
+
+/* Counts a call that was as the reference has it. */
+void count_call(size_t call, const struct given *given, const struct answer *answer);
+
+/* Counts the place where a slice was lent. */
+void count_place(size_t call, size_t slice, const void *start);
+
+/* Prints what was met. Answers how much of it never was. */
+unsigned report_met(void);
+
+#endif
