@@ -145,6 +145,11 @@ char slice_of(const struct call *call, size_t slice)
     return '\0';
 }
 
+bool takes(const struct call *call, char parameter)
+{
+    return strchr(call->parameters, parameter) != NULL;
+}
+
 struct answer unwritten(void)
 {
     struct answer answer;

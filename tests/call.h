@@ -2,7 +2,7 @@
  * The public calls in one form: what a call is given, what it answers, and a table of them all, so that a test says once
  * what it does with each of them.
  *
- * To add a call: write its run_NAME in call.c and give it a line in `calls`.
+ * To add a call: give it a member in implementation.h, and in call.c a run_NAME and a line in `calls`.
  */
 #ifndef CALL_H
 #define CALL_H
@@ -33,7 +33,7 @@ struct given {
 /* In the order of parameters, each a whole number or a float, aligned for its type and to nothing more. No call may write what
    lies beside them. */
 struct answer {
-    uint64_t number;
+    _Alignas(16) uint64_t number; /* so that what follows is at 8 bytes behind a multiple of 16 */
     struct {
         uint64_t whole, behind_whole;
         float before_soft, soft, behind_soft, more;
@@ -56,9 +56,6 @@ struct call {
 
 extern const struct call calls[CALLS];
 
-/* The index in `calls` of some of them. */
-enum { CALL_BUILD = 5, CALL_NAME = 8, CALL_PART = 9, CALL_HEARD = 13 };
-
 /* Bytes of a value of the slice that a letter of `parameters` stands for; 0 if it stands for a number. */
 size_t unit_of(char parameter);
 
@@ -67,6 +64,9 @@ bool is_written(char parameter);
 
 /* The letter of the slice with this index, or 0 if the call has not so many. */
 char slice_of(const struct call *call, size_t slice);
+
+/* Whether the call has a parameter of this letter. */
+bool takes(const struct call *call, char parameter);
 
 /* Every byte UNWRITTEN_BYTE. */
 struct answer unwritten(void);

@@ -1,34 +1,31 @@
 /* Part of random: counts what was met, call by call, and says what never was. */
 #include <stdio.h>
-#include <string.h>
 
 #include "fields.h"
-#include "lent.h"
 #include "random.h"
 
 enum { OFFSETS = 8 }; /* addresses modulo 8 */
 
 static struct {
     unsigned long numbers[NUMBERS];
-    unsigned long kinds[KINDS];                  /* accepted on such a sheet, with such a channel */
-    unsigned long empty[MOST_SLICES];            /* empty slices whose length was looked at */
-    unsigned long places[MOST_SLICES][OFFSETS];  /* where slices were lent */
-    unsigned long greatest[MOST_WHOLE + 1];      /* 2^32 - 1 that drew 9 or 10; last, 2^64 - 1 that drew 11 */
+    unsigned long kinds[KINDS];                 /* accepted on such a sheet, with such a channel */
+    unsigned long empty[MOST_SLICES];           /* empty slices whose length was looked at */
+    unsigned long places[MOST_SLICES][OFFSETS]; /* where slices were lent */
+    unsigned long greatest[MOST_WHOLE + 1];     /* 2^32 - 1 that drew 9 or 10; last, 2^64 - 1 that drew 11 */
 } met[CALLS];
 
 /* ---- Counting ---- */
 
-/* Whether the fields given are those of the sheet, of which the kinds are known. */
-static bool same_fields(const struct given *given)
+/* Whether accepted fields are those of the sheet, of which the kinds are known. */
+static bool of_sheet(const uint16_t *fields)
 {
-    const uint16_t *fields = given->slices[0].start;
     for (unsigned place = 0; place < UMV_FIELDS; place++)
         if (in_use(drawn.fields, place) && fields[place] != drawn.fields[place])
             return false;
-    return true;
+    return !drawn.damaged;
 }
 
-/* The TrCH that the call asks for or answers, or 0. */
+/* The TrCH that the call asks for, or that it answers for a place, or 0. */
 static uint64_t trch_of(const struct call *call, const struct given *given, const struct answer *answer)
 {
     size_t number = 0;
@@ -37,12 +34,12 @@ static uint64_t trch_of(const struct call *call, const struct given *given, cons
             return given->whole[number];
         number += unit_of(*parameter) == 0;
     }
-    return call == &calls[CALL_NAME] ? answer->at[0].whole : 0;
+    return takes(call, 'u') ? answer->at[0].whole : 0;
 }
 
 static uint32_t kinds_of(const struct call *call, const struct given *given, const struct answer *answer)
 {
-    if (call->parameters[0] == 'f' && !same_fields(given))
+    if (takes(call, 'f') && !of_sheet(given->slices[0].start))
         return 0;
     uint64_t trch = trch_of(call, given, answer);
     uint32_t kinds = drawn.kinds;
@@ -107,10 +104,10 @@ static unsigned print_number(size_t call, size_t number)
     return print_count(calls[call].numbers >> number & 1, met[call].numbers[number]);
 }
 
-/* A bit of an empty channel is never there, so that two calls are never accepted on one. */
+/* An empty channel has no place and no bit, so that calls that ask for one are never accepted on it. */
 static unsigned print_kind(size_t call, size_t kind)
 {
-    bool possible = kind != EMPTY || (call != CALL_NAME && call != CALL_HEARD);
+    bool possible = kind != EMPTY || !(takes(&calls[call], 'u') || takes(&calls[call], 'm'));
     return print_count(possible, met[call].kinds[kind]);
 }
 

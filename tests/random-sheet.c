@@ -75,20 +75,20 @@ static void random_fields(void)
     memset(fields, 0, sizeof drawn.fields);
     fields[UMV_FIELD_VERSION] = 1;
     fields[UMV_FIELD_MODE] = (uint16_t)between(0, 1);
-    uint32_t kind = between(1, 200);
+    uint32_t kind = between(1, 400);
     if (kind <= 1) {
         few_bits();
         fullest_slots(false);
-    } else if (kind <= 5) {
+    } else if (kind <= 6) {
         fullest_channels(one_in(3));
         fullest_slots(one_in(3));
-    } else if (kind <= 9) {
+    } else if (kind <= 14) {
         random_channels(16383);
         random_slots(15, 4095);
-    } else if (kind <= 13) {
+    } else if (kind <= 17) {
         random_channels(one_in(2) ? 1 : 7000);
         random_slots(3, 2000);
-    } else if (kind <= 80) {
+    } else if (kind <= 160) {
         random_channels(600);
         random_slots(15, 40);
     } else {
@@ -164,11 +164,14 @@ static void measure(void)
 
 void draw_sheet(void)
 {
-    memset(drawn.sheet, 0, sizeof drawn.sheet);
+    uint8_t packed[UMV_SHEET_MOST];
     random_fields();
     damage_fields();
-    size_t bits = pack(fields, drawn.sheet);
+    size_t bits = pack(fields, packed);
+    memset(drawn.sheet, 0, sizeof drawn.sheet);
+    memcpy(drawn.sheet, packed, sizeof packed);
     drawn.packed_len = (bits + 7) / 8;
     damage_sheet(bits);
+    drawn.damaged = drawn.sheet_len != drawn.packed_len || memcmp(drawn.sheet, packed, sizeof packed) != 0;
     measure();
 }

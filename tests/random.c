@@ -13,7 +13,10 @@
 #include "lent.h"
 #include "random.h"
 
-enum { USUAL = 60000 }; /* calls, unless asked otherwise */
+enum {
+    USUAL = 60000,  /* calls, unless asked otherwise */
+    A_SIGN = 100000 /* calls after which a sign of life is given */
+};
 
 static uint64_t seed = 0x2522200410203040;
 
@@ -150,17 +153,21 @@ static bool compare(size_t call)
             return true;
         }
     count_call(call, &now.given, &now.theirs);
+    if (now.number % A_SIGN == 0) {
+        printf("random: %lu calls compared\n", now.number);
+        fflush(stdout);
+    }
     return false;
 }
 
-/* On each sheet every call once, some more often; each begins chance anew, so that it does not hang on the other calls. */
+/* On each sheet every call once, a name four times. Each begins chance anew, so that it does not hang on the other calls. */
 static bool compare_all(unsigned long most)
 {
     for (uint64_t sheet = 1; now.number < most; sheet++) {
         begin(seed, sheet << 16);
         draw_sheet();
         for (size_t call = 0; call < CALLS; call++) {
-            unsigned times = call == CALL_NAME ? 4 : call == CALL_BUILD || call == CALL_PART ? 2 : 1;
+            unsigned times = takes(&calls[call], 'u') ? 4 : 1;
             begin(seed, sheet << 16 | (call + 1));
             for (unsigned k = 0; k < times && now.number < most; k++)
                 if (compare(call))

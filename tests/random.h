@@ -25,9 +25,10 @@ struct drawn {
     uint8_t sheet[2 * UMV_SHEET_MOST];
     size_t sheet_len;
     size_t packed_len; /* before they were damaged */
+    bool damaged;
     /* Of an accepted sheet, otherwise 0: */
     uint64_t channels, slots, contents, capacity, joined;
-    uint32_t kinds;           /* a bit each */
+    uint32_t kinds;            /* a bit each */
     uint32_t channel_kinds[8]; /* of each channel */
 };
 
