@@ -30,6 +30,16 @@ static struct {
     uint8_t their_slices[MOST_SLICES][LENT_MOST];
 } now;
 
+static size_t bytes_of(size_t slice)
+{
+    return unit_of(slice_of(&calls[now.call], slice)) * now.given.slices[slice].count;
+}
+
+static bool may_be_written(size_t slice)
+{
+    return is_written(slice_of(&calls[now.call], slice)) && now.theirs.number == UMV_OK;
+}
+
 /* ---- Telling ---- */
 
 /* All that is needed to make the call again. */
@@ -80,12 +90,11 @@ static bool answers_differ(const struct answer *ours)
 
 static bool slice_differs(size_t slice, const uint8_t *ours)
 {
-    size_t unit = unit_of(slice_of(&calls[now.call], slice)), bytes = unit * now.given.slices[slice].count;
-    if (bytes != 0 && memcmp(ours, now.their_slices[slice], bytes) != 0) {
+    if (bytes_of(slice) != 0 && memcmp(ours, now.their_slices[slice], bytes_of(slice)) != 0) {
         size_t i = 0;
         while (ours[i] == now.their_slices[slice][i])
             i++;
-        printf("slice %zu differs first in its value %zu, counted from 0\n", slice + 1, i / unit);
+        printf("slice %zu differs first in its byte %zu, counted from 0\n", slice + 1, i);
         return true;
     }
     if (!sides_kept(slice)) {
@@ -105,18 +114,15 @@ static void run_reference(void)
     now.theirs = unwritten();
     for (size_t i = 0; slice_of(call, i) != '\0'; i++) {
         given.slices[i].start = now.their_slices[i];
-        memcpy(now.their_slices[i], now.given.slices[i].start, unit_of(slice_of(call, i)) * given.slices[i].count);
+        memcpy(now.their_slices[i], now.given.slices[i].start, bytes_of(i));
     }
     now.theirs.number = call->run(&reference, &given, &now.theirs);
-    for (size_t i = 0; slice_of(call, i) != '\0'; i++) {
-        bool may_write = is_written(slice_of(call, i)) && now.theirs.number == UMV_OK;
-        size_t bytes = unit_of(slice_of(call, i)) * given.slices[i].count;
-        if (!may_write && memcmp(now.their_slices[i], now.given.slices[i].start, bytes) != 0) {
+    for (size_t i = 0; slice_of(call, i) != '\0'; i++)
+        if (!may_be_written(i) && memcmp(now.their_slices[i], now.given.slices[i].start, bytes_of(i)) != 0) {
             printf("the reference wrote slice %zu and must not\n", i + 1);
             tell();
             exit(2);
         }
-    }
 }
 
 /* Whether the library's call, with its slices lent this way, differs from the reference's. */
@@ -127,9 +133,8 @@ static bool library_differs(enum way way)
     struct answer ours = unwritten();
     now.way = way;
     for (size_t i = 0; slice_of(call, i) != '\0'; i++) {
-        bool may_write = is_written(slice_of(call, i)) && now.theirs.number == UMV_OK;
         given.slices[i].start = lend(i, way, now.given.slices[i].start, given.slices[i].count,
-                                     unit_of(slice_of(call, i)), !may_write);
+                                     unit_of(slice_of(call, i)), !may_be_written(i));
         if (given.slices[i].count != 0)
             count_place(now.call, i, given.slices[i].start);
     }

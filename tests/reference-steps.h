@@ -1,5 +1,5 @@
 /*
- * Steps 6, 8 and 9 of document 01, which move values without looking at them. reference.c includes this once for each
+ * Steps 6, 8 and 9 of document 01, which move values without looking at them. reference-frame.h includes this once for each
  * kind of value: VALUE is its type, STEP(x) the name of function x for it.
  */
 
