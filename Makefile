@@ -67,7 +67,7 @@ PREFIX ?= /usr/local
 ROOT := $(abspath $(PREFIX))
 KIT := $(DESTDIR)$(ROOT)
 RELEASE := $(shell sed -n 's/^.define UMV_RELEASE "\(.*\)".*/\1/p' include/ummervia.h)
-CALLS := $(shell sed -n 's/^uint32_t \(umv_[a-z_]*\).*/\1/p' include/ummervia.h)
+PAGES := $(shell sed -n 's/^uint32_t \(umv_[a-z_]*\).*/\1/p' include/ummervia.h)
 MANUAL := $(KIT)/share/man/man3
 PAPERS := $(KIT)/share/doc/ummervia
 
@@ -82,14 +82,14 @@ install: $(ARCHIVE)
 	install -D -m 644 -t $(KIT)/lib/pkgconfig target/kit/ummervia.pc
 	install -D -m 644 -t $(MANUAL) target/kit/ummervia.3
 	@echo .so man3/ummervia.3 > target/kit/page; \
-	for call in $(CALLS); do install -m 644 target/kit/page $(MANUAL)/$$call.3; done
+	for call in $(PAGES); do install -m 644 target/kit/page $(MANUAL)/$$call.3; done
 	install -D -m 644 -t $(PAPERS) docs/PROMISES.md docs/SPEED.md
 	install -D -m 644 -t $(PAPERS)/examples examples/Makefile examples/*.c examples/*.sheet
 
 # Leaves the folders that others install into.
 uninstall:
 	rm -f $(KIT)/lib/libummervia.a $(KIT)/include/ummervia.h $(KIT)/lib/pkgconfig/ummervia.pc
-	@rm -f $(MANUAL)/ummervia.3 $(CALLS:%=$(MANUAL)/%.3)
+	@rm -f $(MANUAL)/ummervia.3 $(PAGES:%=$(MANUAL)/%.3)
 	rm -rf $(PAPERS)
 
 # A million random calls, or CALLS, from a new seed, or SEED. The first difference ends it and says how to repeat it.
