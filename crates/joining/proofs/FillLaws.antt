@@ -33,9 +33,9 @@ module _ {less : Bool} {m start : ℕ} {vs old list : List Float} {e k i : ℕ} 
   pub fill-end : length old ≤ i → list ≡ homeOf (signedBy less m) (length old) start vs
   fill-end h = let q : length old - i ≡ 0 = omega arith in todo-done (f .todo) (rw q (unfold sharedFrom in refl))
 
-  -- one bit: x was heard of it, of its c copies, and its value is written
-  pub fill-turn : i < length old → {c e′ : ℕ} {x : Heard} {list′ : List Float} → c ≡ copiesAt less (2 * length old) (2 * m) e
-      → e′ ≡ after less (2 * length old) (2 * m) e → x ≡ joinOf (take c (drop k vs)) → list′ ≡ set list i (valueOf x)
-      → Filling less m start vs old list′ e′ (k + c) (i + 1)
-  fill-turn h qc qe qx ql =
-      rw (ql, qx) (record { place = place-next (f .place) h qc qe; todo = todo-put (f .todo) (ap homes (left-next (f .place) h qc qe)) })
+  -- one bit: x was heard of it, and its value is written
+  pub fill-turn : i < length old → {x : Heard} {k′ e′ : ℕ} {list′ : List Float}
+      → let P = 2 * length old in let D = 2 * m in x ≡ joinOf (take (copiesAt less P D e) (drop k vs)) → k′ ≡ k + copiesAt less P D e
+      → e′ ≡ after less P D e → list′ ≡ set list i (valueOf x) → Filling less m start vs old list′ e′ k′ (i + 1)
+  fill-turn h qx qk qe ql =
+      rw (ql, qx) (record { place = place-next (f .place) h qk qe; todo = todo-put (f .todo) (ap homes (left-next (f .place) h qk qe)) })

@@ -4,6 +4,7 @@ pub mod PlaceLaws
 pub mod FillLaws
 pub mod LinkLaws
 pub mod HeardLaws
+pub mod OnceLaws
 pub mod WholeLaws
 pub mod CopyLaws
 pub mod BoundLaws

@@ -94,7 +94,7 @@ punctures-append (Nothing ∷ hs) js = omega (arith, punctures-append hs js)
 punctures-append (Once x ∷ hs) js = punctures-append hs js
 punctures-append (Joined x n ∷ hs) js = punctures-append hs js
 
-abbrev made : List Float → ℕ → Link
+abbrev pub made : List Float → ℕ → Link
 made ms p = record { least = chosen lower ms; greatest = chosen higher ms; punctured = p }
 
 made-more : (ms : List Float) (p n : ℕ) (a : Float) → p + length ms ≡ n → made (ms ++ (a ∷ [])) p ≡ withMagnitude (made ms p) (eqb p n) a

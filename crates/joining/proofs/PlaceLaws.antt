@@ -47,11 +47,11 @@ module _ {less : Bool} {m N : ℕ} {vs : List Float} {e k i : ℕ} (p : Place le
   pub place-room : k + copiesAt less (2 * N) (2 * m) e ≤ length vs
   place-room = omega (arith, apart)
 
-  -- c copies are sent of bit i, and e′ is e as the next bit finds it
-  module _ {c e′ : ℕ} (qc : c ≡ copiesAt less (2 * N) (2 * m) e) (qe : e′ ≡ after less (2 * N) (2 * m) e) where
-    pub place-next : Place less m N vs e′ (k + c) (i + 1)
+  -- the copies of the next bit begin at k′, and e′ is e as that bit finds it
+  module _ {k′ e′ : ℕ} (qk : k′ ≡ k + copiesAt less (2 * N) (2 * m) e) (qe : e′ ≡ after less (2 * N) (2 * m) e) where
+    pub place-next : Place less m N vs e′ k′ (i + 1)
     place-next =
-        rw (qc, qe)
+        rw (qk, qe)
         (record {
           few = p .few;
           most = p .most;
@@ -60,8 +60,8 @@ module _ {less : Bool} {m N : ℕ} {vs : List Float} {e k i : ℕ} (p : Place le
           rest = omega (arith, apart);
         })
 
-    pub left-next : left less m N vs e k i ≡ take c (drop k vs) ∷ left less m N vs e′ (k + c) (i + 1)
+    pub left-next : left less m N vs e k i ≡ take (copiesAt less (2 * N) (2 * m) e) (drop k vs) ∷ left less m N vs e′ k′ (i + 1)
     unfolding sharedFrom
     left-next =
         let q : N - i ≡ suc (N - (i + 1)) = omega arith in
-        rw (q, qc, qe, ← drop-drop (copiesAt less (2 * N) (2 * m) e) k vs)
+        rw (q, qk, qe, ← drop-drop (copiesAt less (2 * N) (2 * m) e) k vs)

@@ -6,8 +6,7 @@ ghost use Rattle.matching.specs.Signed.{signedBy};
 ghost use Rattle.pattern.specs.Pattern.{Segment};
 ghost use Rattle.joining.specs.Joining.{homeOf};
 use crate::Heard;
-use crate::hearing::hear_at;
-use crate::walking::turn;
+use crate::walking::hear_next;
 
 // d = 0: the values as they are.
 fn copy_values(values: &[f32], segment: &mut [f32])
@@ -32,9 +31,8 @@ fn fill(values: &[f32], segment: &mut [f32], start: usize, less: bool, m: usize)
     let mut k: usize = 0;
     let mut i: usize = 0;
     while i < segment.len() {
-        let t = turn(less, p, q, e);
-        let c = t.copies;
-        let h = hear_at(values, k, c);
+        let t = hear_next(values, k, less, p, q, e);
+        let h = t.heard;
         match h {
             Heard::Nothing => {
                 segment[i] = 0.0;
@@ -47,7 +45,7 @@ fn fill(values: &[f32], segment: &mut [f32], start: usize, less: bool, m: usize)
             }
         }
         e = t.e;
-        k += c;
+        k = t.next;
         i += 1;
     }
 }

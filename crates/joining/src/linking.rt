@@ -1,5 +1,6 @@
 // The link record of a segment.
 ghost use mathlib.Core.Path.{_≡_};
+ghost use mathlib.Core.Bool.{false};
 ghost use mathlib.Core.List.{[], map};
 ghost use Prim.Native.Nat.{_+_, _^_, _<_};
 ghost use lib.ListN.{length};
@@ -9,8 +10,7 @@ ghost use Rattle.joining.specs.declared.Heard.the-variants.{Once};
 ghost use Rattle.joining.specs.Joining.{heardOf};
 ghost use Rattle.joining.specs.Linked.{magnitudeOf, linkOf, withValue, withHeard};
 use crate::Heard;
-use crate::hearing::hear_at;
-use crate::walking::turn;
+use crate::walking::hear_next;
 
 pub struct Link {
     pub least: f32,
@@ -33,7 +33,7 @@ fn magnitude(x: f32) -> f32
 
 impl Link {
     // Of no bit.
-    fn new() -> Link
+    pub fn new() -> Link
         ensures { λ r. ⌜ r ≡ linkOf [] ⌝ }
     {
         Link {
@@ -82,12 +82,16 @@ impl Link {
     }
 }
 
-// d = 0: each bit was heard once.
+// Each value was heard alone. The first is put in before the loop, so that the loop need not ask for it.
 fn link_once(values: &[f32]) -> Link
     ensures { λ r. ⌜ r ≡ linkOf (map Once (now (values .entry))) ⌝ }
 {
     let mut l = Link::new();
-    let mut i: usize = 0;
+    if values.len() == 0 {
+        return l;
+    }
+    l = l.with(Heard::Once(values[0]), 0);
+    let mut i: usize = 1;
     while i < values.len() {
         l = l.with(Heard::Once(values[i]), i);
         i += 1;
@@ -95,36 +99,44 @@ fn link_once(values: &[f32]) -> Link
     l
 }
 
-// d is not 0: each bit takes its next copies.
-fn link_copies(values: &[f32], n: usize, start: usize, less: bool, m: usize) -> Link
-    requires { ⌜ Segment less m n (length (now values)) start × (0 < m) ⌝ }
-    ensures { λ r. ⌜ r ≡ linkOf (heardOf (signedBy less m) n start (now (values .entry))) ⌝ }
+// d is above 0: each bit takes its next copies. The first bit as in link_once.
+fn link_copies(values: &[f32], n: usize, start: usize, m: usize) -> Link
+    requires { ⌜ Segment false m n (length (now values)) start × (0 < m) ⌝ }
+    ensures { λ r. ⌜ r ≡ linkOf (heardOf (signedBy false m) n start (now (values .entry))) ⌝ }
 {
     let p = 2 * n;
     let q = 2 * m;
     let mut l = Link::new();
-    let mut e = start;
-    let mut k: usize = 0;
-    let mut i: usize = 0;
+    let first = hear_next(values, 0, false, p, q, start);
+    let h = first.heard;
+    l = l.with(h, 0);
+    let mut e = first.e;
+    let mut k = first.next;
+    let mut i: usize = 1;
     while i < n {
-        let t = turn(less, p, q, e);
-        let c = t.copies;
-        let h = hear_at(values, k, c);
+        let t = hear_next(values, k, false, p, q, e);
+        let h = t.heard;
         l = l.with(h, i);
         e = t.e;
-        k += c;
+        k = t.next;
         i += 1;
     }
     l
 }
 
 // The link record of a segment of n bits, by d (its sign and its magnitude m) and the start e; `values` are those sent of it, in order.
+// Where no bit has two copies, each value was heard alone.
 pub fn link_segment(values: &[f32], n: usize, e: usize, less: bool, m: usize) -> Link
     requires { ⌜ Segment less m n (length (now values)) e ⌝ }
     ensures { λ r. ⌜ r ≡ linkOf (heardOf (signedBy less m) n e (now (values .entry))) ⌝ }
 {
-    if m == 0 {
-        return link_once(values);
+    if less || m == 0 {
+        let l = link_once(values);
+        return Link {
+            least: l.least,
+            greatest: l.greatest,
+            punctured: m,
+        };
     }
-    link_copies(values, n, e, less, m)
+    link_copies(values, n, e, m)
 }

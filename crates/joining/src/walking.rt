@@ -1,40 +1,49 @@
 // Step 6 at one bit, for a walk over values that were sent.
 ghost use mathlib.Core.Path.{_≡_};
-ghost use Prim.Native.Nat.{_*_, _≤_};
+ghost use Prim.Native.Nat.{_+_, _*_, _≤_};
+ghost use lib.ListN.{length, take, drop};
 ghost use Rattle.sheet.specs.Counts.{mostEncoded, mostBits};
 ghost use Rattle.pattern.specs.Pattern.{copiesAt, after, Stands};
+ghost use Rattle.joining.specs.Joining.{joinOf};
+use crate::Heard;
 
-// How many copies of the bit were sent, and e as the next bit finds it.
+// What was heard of the bit, where the copies of the next bit begin, and e as that bit finds it.
 pub struct Step {
-    pub copies: usize,
+    pub heard: Heard,
+    pub next: usize,
     pub e: usize,
 }
 
-// p is 2N and q is 2|d|.
-pub fn turn(less: bool, p: usize, q: usize, start: usize) -> Step
-    requires { ⌜ Stands less p q start × (p ≤ 2 * mostEncoded) × (q ≤ 2 * mostBits) ⌝ }
-    ensures { λ r. ⌜ (r .copies ≡ copiesAt less p q start) × (r .e ≡ after less p q start) ⌝ }
+// The bit's copies begin at k; p is 2N and q is 2|d|.
+pub fn hear_next(values: &[f32], k: usize, less: bool, p: usize, q: usize, start: usize) -> Step
+    requires { ⌜ Stands less p q start × (p ≤ 2 * mostEncoded) × (q ≤ 2 * mostBits) × (k + copiesAt less p q start ≤ length (now values)) ⌝ }
+    ensures { λ r. ⌜ (r .heard ≡ joinOf (take (copiesAt less p q start) (drop k (now (values .entry))))) × (r .next ≡ k + copiesAt less p q start) × (r .e ≡ after less p q start) ⌝ }
 {
-    if less {
-        if start <= q {
-            return Step {
-                copies: 0,
-                e: start + p - q,
-            };
-        }
+    if q < start {
         return Step {
-            copies: 1,
+            heard: Heard::Once(values[k]),
+            next: k + 1,
             e: start - q,
         };
     }
-    let mut copies = 1;
+    if less {
+        return Step {
+            heard: Heard::Nothing,
+            next: k,
+            e: start + p - q,
+        };
+    }
+    let mut sum = values[k];
+    let mut i = k + 1;
     let mut e = start;
     while e <= q {
-        copies += 1;
+        sum = sum + values[i];
+        i += 1;
         e += p;
     }
     Step {
-        copies: copies,
+        heard: Heard::Joined(sum, i - k),
+        next: i,
         e: e - q,
     }
 }

@@ -31,15 +31,10 @@ loop-holds c =
     let a = u .args in
     fill-start (a .less) (a .m) (a .start) (now (a .values)) (now (a .segment)) (u .pre .0) (u .pre .1)
 
-turn-requires : tie.Need-turn-requires Inv-loop μ-loop
-turn-requires c κs =
+hear-next-requires : tie.Need-hear-next-requires Inv-loop μ-loop
+hear-next-requires c κs =
     let l = c .before .loop in
-    (l .inv .place .here, omega arith, omega arith)
-
-hear-at-requires : tie.Need-hear-at-requires Inv-loop μ-loop
-hear-at-requires c κs =
-    let l = c .before .before .loop in
-    omega (arith, place-room (l .inv .place) (omega arith), c .turn .ensures .0)
+    (l .inv .place .here, omega arith, omega arith, place-room (l .inv .place) (omega arith))
 
 enum-told : tie.Need-enum-told Inv-loop μ-loop
 enum-told c = search needs
@@ -68,24 +63,19 @@ mul-segment-3 c = omega arith
 slice-write-segment-3 : tie.Need-slice-write-segment-3 Inv-loop μ-loop
 slice-write-segment-3 c = omega arith
 
-add-k : tie.Need-add-k Inv-loop μ-loop
-add-k c =
-    let l = c .before .before .before .before .loop in
-    omega (arith, place-room (l .inv .place) (omega arith), c .before .before .turn .ensures .0)
-
 add-i : tie.Need-add-i Inv-loop μ-loop
 add-i c = omega arith
 
 loop-less : tie.Need-loop-less Inv-loop μ-loop
-loop-less c = let l = c .before .before .before .before .loop in omega arith
+loop-less c = let l = c .before .before .before .loop in omega arith
 
 loop-again : tie.Need-loop-again Inv-loop μ-loop
 unfolding ofBits valueOf
 loop-again c =
-    let l = c .before .before .before .before .loop in
-    let t = c .before .before .turn in
+    let l = c .before .before .before .loop in
+    let t = c .before .hear-next .ensures in
     let put : Float → List Float = λ v. set (l .segment) (l .i) v in
-    fill-turn (l .inv) (omega arith) (t .ensures .0) (t .ensures .1) (c .before .hear-at .ensures)
+    fill-turn (l .inv) (omega arith) (t .0) (t .1) (t .2)
     (⊎-elim
     (λ w. w .2 ∙ ap put (sym (ap valueOf (w .1 .given .1))))
     (λ u. ⊎-elim (λ w. w .3 ∙ ap put (sym (ap valueOf (w .1 .given .1)))) (λ w. w .3 ∙ ap put (sym (ap valueOf (w .1 .given .1)))) u)
@@ -106,8 +96,7 @@ fill-spec =
     mul-p
     mul-q
     loop-holds
-    turn-requires
-    hear-at-requires
+    hear-next-requires
     enum-told
     mul-segment
     slice-write-segment
@@ -117,7 +106,6 @@ fill-spec =
     enum-known-h-2
     mul-segment-3
     slice-write-segment-3
-    add-k
     add-i
     loop-less
     loop-again
