@@ -11,4 +11,5 @@ pub mod BoundLaws
 pub mod ValueLaws
 pub mod ExtremeLaws
 pub mod ZeroLaws
+pub mod MagnitudeLaws
 pub mod Example

@@ -1,58 +1,18 @@
--- Laws of the link record: one magnitude, one bit more, and a walk that makes the record.
+-- Laws of the link record: one bit more, and a walk that makes the record.
 use mathlib.Core.Path.{_≡_, refl, sym, ap, ap₂, _∙_}
-use mathlib.Core.Bool.{Bool, true, false, cond, _&&_, true≢false, false≢true}
+use mathlib.Core.Bool.{Bool, true, false, cond}
 use mathlib.Core.List.{List, [], _∷_, _++_, append-nil, append-assoc, foldl-append}
-use Prim.Native.Nat.{ℕ, zero, suc, _+_, _*_, _≤_, _<_}
-use native.Mathlib.Nat.{zero-mul, mul-pos, zero-lt-suc, add-zero}
+use Prim.Native.Nat.{ℕ, _+_, _≤_}
+use native.Mathlib.Nat.{add-zero}
 use native.Mathlib.Omega.{arith}
-use borrow.Author.Tests.{ltb-true, ltb-false, eqb-true, eq-eqb, ne-eqb}
+use borrow.Author.Tests.{eq-eqb, ne-eqb}
 use lib.Dec.{eqb}
-use lib.IntN.{ℤ}
 use lib.ListN.{length, length-append}
-use lib.Ieee.{Float, nan, inf, fin, up, down, lt, eq, neg}
-use lib.Ieee.Fits.{up-pos}
+use lib.Ieee.{Float, lt}
 use Rattle.joining.specs.declared.Heard.{Heard}
 use Rattle.joining.specs.declared.Heard.the-variants.{Nothing, Once, Joined}
 use Rattle.joining.specs.declared.linking.Link.{Link}
-use Rattle.joining.specs.Joining.{plusZero}
 use Rattle.joining.specs.Linked.{magnitudeOf, magnitudes, punctures, lower, higher, chosen, linkOf, withMagnitude, withValue, withHeard}
-
--- ---- one magnitude, by the tests of its value
-
-above : (m : ℕ) (e : ℤ) → 0 < suc m * up e
-above m e = mul-pos (zero-lt-suc m) (up-pos e)
-
-and-left : (a b : Bool) → a && b ≡ true → a ≡ true
-and-left true b h = refl
-and-left false b h = h
-
-pub magnitude-neg : (x : Float) → lt x plusZero ≡ true → neg x ≡ magnitudeOf x
-unfolding lt neg magnitudeOf
-magnitude-neg nan h = absurd (false≢true h)
-magnitude-neg (inf false) h = absurd (false≢true h)
-magnitude-neg (inf true) h = refl
-magnitude-neg (fin false m e) h = let l : m * up e * 1 < 0 * 1 * down e = ltb-true _ _ h in absurd (omega arith)
-magnitude-neg (fin true zero e) h = let l : 0 < 0 * up e * 1 + 0 * 1 * down e = ltb-true _ _ h in absurd (omega arith)
-magnitude-neg (fin true (suc m) e) h = refl
-
-pub magnitude-zero : (x : Float) → eq x plusZero ≡ true → plusZero ≡ magnitudeOf x
-unfolding eq magnitudeOf
-magnitude-zero nan h = absurd (false≢true h)
-magnitude-zero (inf s) h = absurd (false≢true h)
-magnitude-zero (fin s zero e) h = refl
-magnitude-zero (fin s (suc m) e) h =
-    let q : suc m * up e * 1 ≡ 0 * 1 * down e = eqb-true _ _ (and-left _ _ h) in absurd (omega (arith, above m e))
-
-pub magnitude-same : (x : Float) → lt x plusZero ≡ false → eq x plusZero ≡ false → x ≡ magnitudeOf x
-unfolding lt eq magnitudeOf
-magnitude-same nan h g = refl
-magnitude-same (inf false) h g = refl
-magnitude-same (inf true) h g = absurd (true≢false h)
-magnitude-same (fin false zero e) h g = absurd (true≢false (simp zero-mul at g))
-magnitude-same (fin true zero e) h g = absurd (true≢false (simp zero-mul at g))
-magnitude-same (fin false (suc m) e) h g = refl
-magnitude-same (fin true (suc m) e) h g =
-    let q : suc m * up e * 1 + 0 * 1 * down e ≤ 0 = ltb-false _ _ h in absurd (omega (arith, above m e))
 
 -- ---- one value more, by the tests of the code
 

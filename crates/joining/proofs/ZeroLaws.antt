@@ -27,7 +27,7 @@ minusZero = fin true 0 (pos 0)
 
 -- ---- the smallest float above 0 is 1 over this, and each float is a multiple of it
 
-abbrev unit : ℕ
+abbrev pub unit : ℕ
 unit = 2 ^ 149
 
 pow-back : (i j : ℕ) → 2 ^ i ≤ 2 ^ j → i ≤ j
@@ -39,9 +39,26 @@ pow-parts i j h = let q : j ≡ i + (j - i) = omega arith in ap (λ (n : ℕ). 2
 no-power : (k : ℕ) → 1 * 2 ^ suc k ≡ 1 → ⊥
 no-power k q = omega (arith, pow-lt {i = 0} {j = suc k} (omega arith))
 
-parts-of : (e : ℤ) → T (leb (down e) unit) → (g : ℕ) × (unit ≡ down e * g)
-parts-of (pos k) t = (unit, sym (one-mul unit))
-parts-of (negsuc k) t = (2 ^ (149 - suc k), pow-parts (suc k) 149 (pow-back (suc k) 149 (leb→le (2 ^ suc k) unit t)))
+-- how often the denominator of 2^e goes into it; and so often its numerator is a power of 2
+pub record Parts (e : ℤ) : Type 0 where
+  pub count : ℕ
+  pub exponent : ℕ
+  pub all : unit ≡ down e * count
+  pub power : up e * count ≡ 2 ^ exponent
+  pub above : 0 < count
+
+pub parts-of : (e : ℤ) → T (leb (down e) unit) → Parts e
+parts-of (pos k) t =
+    record { count = unit; exponent = k + 149; all = sym (one-mul unit); power = sym (pow-add 2 k 149); above = pow-pos 149 }
+parts-of (negsuc k) t =
+    let j = 149 - suc k in
+    record {
+      count = 2 ^ j;
+      exponent = j;
+      all = pow-parts (suc k) 149 (pow-back (suc k) 149 (leb→le (2 ^ suc k) unit t));
+      power = one-mul (2 ^ j);
+      above = pow-pos j;
+    }
 
 parts : (s : Bool) (m : ℕ) (e : ℤ) → T (fits binary32 (fin s m e)) → (g : ℕ) × (unit ≡ down e * g)
 unfolding fits
@@ -50,10 +67,11 @@ parts s zero (negsuc k) t = absurd (no-power k (eqb→eq (1 * 2 ^ suc k) 1 t))
 parts s (suc m) e t =
     let a = eqb (suc m % 2) 1 && ltb (suc m) (2 ^ 24) in
     let b = ltb (suc m * up e) (2 ^ 128 * down e) in
-    parts-of e (and-r a (leb (down e) unit) (and-l (a && leb (down e) unit) b t))
+    let p = parts-of e (and-r a (leb (down e) unit) (and-l (a && leb (down e) unit) b t)) in
+    (p .count, p .all)
 
 -- a zero is written in one way
-zero-is : (s : Bool) (e : ℤ) → T (fits binary32 (fin s 0 e)) → e ≡ pos 0
+pub zero-is : (s : Bool) (e : ℤ) → T (fits binary32 (fin s 0 e)) → e ≡ pos 0
 unfolding fits
 zero-is s (pos zero) t = refl
 zero-is s (pos (suc k)) t = absurd (no-power k (mul-comm 1 (2 ^ suc k) ∙ eqb→eq (2 ^ suc k * 1) 1 t))

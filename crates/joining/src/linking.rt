@@ -18,17 +18,12 @@ pub struct Link {
     pub punctured: usize,
 }
 
-// Of -0.0 it is +0.0.
+// The larger of x and its opposite. 0.0 - x is +0.0 of either zero, as -x is not.
 fn magnitude(x: f32) -> f32
     ensures { λ r. ⌜ r ≡ magnitudeOf x ⌝ }
 {
-    if x < 0.0 {
-        return -x;
-    }
-    if x == 0.0 {
-        return 0.0;
-    }
-    x
+    let y = 0.0 - x;
+    if y < x { x } else { y }
 }
 
 impl Link {
