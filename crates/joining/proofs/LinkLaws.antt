@@ -12,7 +12,13 @@ use lib.Ieee.{Float, lt}
 use Rattle.joining.specs.declared.Heard.{Heard}
 use Rattle.joining.specs.declared.Heard.the-variants.{Nothing, Once, Joined}
 use Rattle.joining.specs.declared.linking.Link.{Link}
+use Rattle.joining.specs.Joining.{plusZero}
 use Rattle.joining.specs.Linked.{magnitudeOf, magnitudes, punctures, lower, higher, chosen, linkOf, withMagnitude, withValue, withHeard}
+
+-- no bit was heard, and none was punctured
+pub link-none : _≡_ {A = Link} (linkOf []) (record { least = plusZero; greatest = plusZero; punctured = 0 })
+unfolding magnitudes punctures chosen linkOf
+link-none = refl
 
 -- ---- one value more, by the tests of the code
 
