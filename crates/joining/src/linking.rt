@@ -77,7 +77,7 @@ impl Link {
     }
 }
 
-// Each value was heard alone. The first is put in before the loop, so that the loop need not ask for it.
+// Each value was heard alone. The first is put in before the loop, so that the loop need not ask for it; two a turn save moves between registers.
 fn link_once(values: &[f32]) -> Link
     ensures { λ r. ⌜ r ≡ linkOf (map Once (now (values .entry))) ⌝ }
 {
@@ -87,14 +87,18 @@ fn link_once(values: &[f32]) -> Link
     }
     l = l.with(Heard::Once(values[0]), 0);
     let mut i: usize = 1;
-    while i < values.len() {
+    while i + 1 < values.len() {
         l = l.with(Heard::Once(values[i]), i);
-        i += 1;
+        l = l.with(Heard::Once(values[i + 1]), i + 1);
+        i += 2;
+    }
+    if i < values.len() {
+        l = l.with(Heard::Once(values[i]), i);
     }
     l
 }
 
-// d is above 0: each bit takes its next copies. The first bit as in link_once.
+// d is above 0: each bit takes its next copies. One bit before the loop and two a turn, as in link_once.
 fn link_copies(values: &[f32], n: usize, start: usize, m: usize) -> Link
     requires { ⌜ Segment false m n (length (now values)) start × (0 < m) ⌝ }
     ensures { λ r. ⌜ r ≡ linkOf (heardOf (signedBy false m) n start (now (values .entry))) ⌝ }
@@ -107,14 +111,23 @@ fn link_copies(values: &[f32], n: usize, start: usize, m: usize) -> Link
     l = l.with(h, 0);
     let mut e = first.e;
     let mut k = first.next;
+    let last = n - 1;
     let mut i: usize = 1;
-    while i < n {
+    while i < last {
         let t = hear_next(values, k, false, p, q, e);
         let h = t.heard;
         l = l.with(h, i);
-        e = t.e;
-        k = t.next;
-        i += 1;
+        let u = hear_next(values, t.next, false, p, q, t.e);
+        let g = u.heard;
+        l = l.with(g, i + 1);
+        e = u.e;
+        k = u.next;
+        i += 2;
+    }
+    if i < n {
+        let t = hear_next(values, k, false, p, q, e);
+        let h = t.heard;
+        l = l.with(h, i);
     }
     l
 }
