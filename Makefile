@@ -28,6 +28,7 @@ endif
 CFLAGS := -static -O2 -std=c11 -Wall -Wextra -Werror -Iinclude
 ARCHIVE := target/staticlib/libummervia.a
 LISTER := target/bin/lister
+PICTURE := target/bin/picture
 REFERENCE := $(wildcard tests/reference*) tests/implementation.h
 SOURCES := crates.txt $(shell find crates -type f)
 
@@ -46,7 +47,7 @@ test: setup
 	@$(MAKE) --no-print-directory ctest
 	@tail -n 1 target/ci.log | grep -Ex '[0-9]+ passed, 0 failed'
 
-ctest: target/c/calls target/c/values target/c/vectors target/c/random target/c/home target/c/sizes $(LISTER)
+ctest: target/c/calls target/c/values target/c/vectors target/c/random target/c/home target/c/picture target/c/sizes $(LISTER) $(PICTURE)
 	$(RUN) target/c/calls
 	$(RUN) target/c/values
 	@run() { if [ -f "$$2" ]; then echo "$(RUN) target/c/vectors $$*"; $(RUN) target/c/vectors "$$@"; \
@@ -56,6 +57,7 @@ ctest: target/c/calls target/c/values target/c/vectors target/c/random target/c/
 	$(RUN) target/c/random
 	$(RUN) target/c/home
 	tests/lister.sh $(RUN) $(LISTER)
+	tests/picture.sh $(PICTURE) target/c/picture $(RUN)
 	$(RUN) target/c/sizes examples/example.sheet
 	tests/kit.sh $(CC) $(RUN)
 	tests/reading.sh
@@ -126,7 +128,7 @@ target/c/%: bench/%.c include/ummervia.h $(ARCHIVE)
 	$(CC) $(CFLAGS) -O3 $(filter %.c %.a,$^) -o $@
 
 # What a program has beside the file of its name.
-target/c/vectors target/c/random target/c/bench: $(REFERENCE)
+target/c/vectors target/c/random target/c/picture target/c/bench: $(REFERENCE)
 target/c/vectors target/c/random: tests/call.c tests/call.h
 target/c/random: $(wildcard tests/random-*.c) tests/random.h tests/lent.c tests/lent.h
 target/c/random target/c/home: tests/chance.c tests/chance.h
@@ -139,6 +141,9 @@ $(ARCHIVE): $(SOURCES)
 
 $(LISTER): $(SOURCES)
 	rt check lister
+
+$(PICTURE): $(SOURCES)
+	rt check picture
 
 clean:
 	rm -rf target
