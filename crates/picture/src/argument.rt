@@ -31,6 +31,7 @@ fn number_of(digits: &[u8]) -> u32 {
     n
 }
 
+// Frame 0 has no fillers, so one has to be able to ask for another.
 pub fn asked() -> FrameNumber {
     if os::arg_count() < 2 {
         return FrameNumber(0);

@@ -19,14 +19,15 @@ const COPY: u8 = 32;
 
 const FILLER: u8 = 64;
 
-// The layers of a picture, drawn one over the other: one for each channel, 1 to 8, then these. A filler is a black box with a white hole.
-pub const COPIES: u8 = 9;
+// The layers of a picture, drawn one over the other: one for each channel, by its number, then these. A filler is a black box with a white hole.
+pub const COPIES: u8 = CHANNELS as u8 + 1;
 
-pub const FILLERS: u8 = 10;
+pub const FILLERS: u8 = COPIES + 1;
 
-pub const HOLES: u8 = 11;
+pub const HOLES: u8 = FILLERS + 1;
 
-pub const LAYERS: u8 = 12;
+// One more than the last.
+pub const LAYERS: u8 = HOLES + 1;
 
 // E of a channel.
 fn encoded(e: [u16; CHANNELS], trch: TrchNumber) -> u64 {
@@ -80,6 +81,7 @@ pub fn look_at(
     }
 }
 
+// Whether a place of that look is drawn in the layer.
 fn belongs(look: u8, layer: u8) -> bool {
     if layer == COPIES {
         return look / COPY % 2 == 1;
