@@ -18,10 +18,6 @@ pub bit-lt : (s : List ℕ) (i : ℕ) → bitAt s i < 2
 unfolding bitAt
 bit-lt s i = mod-lt _ (lit< tt)
 
-pub bit-past : (s : List ℕ) (i : ℕ) → length s ≤ i / 8 → 0 ≡ bitAt s i
-unfolding bitAt
-bit-past s i h = sym (simp (List·getD-eq-default s 0 h, zero-div, zero-mod))
-
 pub val-more : (f : ℕ → ℕ) (at i : ℕ) → val f at i * 2 + f (at + i) ≡ val f at (i + 1)
 unfolding val
 val-more f at i = rw (add-one i)
@@ -33,9 +29,6 @@ val-lt f at (suc n) h = omega (arith, val-lt f at n h, h (at + n), pow-suc 2 n)
 
 pub bits-lt : (s : List ℕ) (at n : ℕ) → val (bitAt s) at n < 2 ^ n
 bits-lt s at n = val-lt (bitAt s) at n (bit-lt s)
-
-pub bits-small : (s : List ℕ) (at n m : ℕ) → n ≤ m → val (bitAt s) at n < 2 ^ m
-bits-small s at n m h = omega (arith, bits-lt s at n, pow-mono h)
 
 -- the bits of v make v again
 pub val-digits : (f : ℕ → ℕ) (at v m d : ℕ) → ((i : ℕ) → i < m → f (at + i) ≡ v / 2 ^ (m + d - 1 - i) % 2) → val f at m ≡ v / 2 ^ d % 2 ^ m
@@ -137,12 +130,6 @@ paste-inside d at s n i hd hs l =
     ∙ ap (λ (x : ℕ). getD (take at d ++ take n s) (x + i) 0) (sym (length-take-le at d hd))
     ∙ getD-append-add (take at d) (take n s) i 0
     ∙ getD-take n s i 0 l
-
--- a field that stands in the bits is read from the packed bytes
-pub read-back : (bs : List ℕ) (m at n v : ℕ) → ((i : ℕ) → getD bs i 0 < 2) → at + n ≤ 8 * m → v < 2 ^ n
-    → ((i : ℕ) → i < n → getD bs (at + i) 0 ≡ digit n v i) → val (bitAt (packed (bitOf bs) m)) at n ≡ v
-read-back bs m at n v small room b h =
-    val-field (bitAt (packed (bitOf bs) m)) at n v b (λ i l. packed-bit (bitOf bs) m (at + i) small (omega arith) ∙ h i l)
 
 -- the length of a field, and of bits with a field after them
 pub field-length : (w v : ℕ) → length (field w v) ≡ w

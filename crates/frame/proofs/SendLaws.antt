@@ -28,7 +28,7 @@ use Rattle.opening.specs.Opened.{Opens}
 use Rattle.opening.specs.declared.Opened.{Opened}
 use Rattle.pattern.specs.Pattern.{asIs, walked, matched, Segment}
 use Rattle.pattern.proofs.MatchedLaws.{matched-same}
-use Rattle.pattern.proofs.SegmentLaws.{magnitude}
+use Rattle.matching.proofs.SignedLaws.{magnitude}
 use Rattle.interleaving.specs.First.{equalised, segmentOf, Segmenting}
 use Rattle.interleaving.proofs.EqualisedLaws.{segments-hold, equalised-length}
 use Rattle.interleaving.proofs.FirstLaws.{segment-whole}

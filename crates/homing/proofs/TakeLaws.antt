@@ -18,7 +18,7 @@ use Rattle.sheet.specs.declared.Sheet.{Sheet}
 use Rattle.matching.specs.Signed.{signedBy}
 use Rattle.matching.specs.Shares.{shareOf, changeOf}
 use Rattle.pattern.specs.Pattern.{again, grown, after, sharedFrom, shared, Segment}
-use Rattle.pattern.proofs.SegmentLaws.{magnitude}
+use Rattle.matching.proofs.SignedLaws.{magnitude}
 use Rattle.frame.specs.Frame.{startAt}
 use Rattle.frame.specs.Walk.{Walks}
 use Rattle.frame.specs.declared.walking.Walk.{Walk}

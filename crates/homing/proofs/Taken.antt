@@ -3,7 +3,7 @@ use mathlib.Core.Path.{_≡_, refl, sym, ap, _∙_}
 use mathlib.Core.List.{List, [], _∷_}
 use Prim.Native.Nat.{ℕ, zero, suc, _+_, _*_, _/_, _%_, _≤_, _<_}
 use native.Mathlib.Nat.{mod-lt, suc-mul, mul-le-mul-right}
-use native.Mathlib.Decide.{decLt, ℕ-discrete}
+use native.Mathlib.Decide.{ℕ-discrete}
 use native.Mathlib.Omega.{arith}
 use lib.Arith.{lt-of-le-ne, digits-lt, digits-div}
 use lib.Pow.{pow-pos}
@@ -11,7 +11,7 @@ use lib.Ieee.{Float}
 use lib.ListN.{length, getD, set, length-set}
 use lib.Seq.{sets, length-sets, getD-set-same, getD-set-other}
 use Rattle.laws.specs.Sums.{sumTo}
-use Rattle.laws.proofs.SumLaws.{sum-within}
+use Rattle.laws.proofs.SumLaws.{sum-within, parts-apart}
 use Rattle.sheet.specs.Fields.{ttiOf}
 use Rattle.sheet.specs.Sizes.{framesOf, sizeOf, equalisedOf, equalisedAll}
 use Rattle.sheet.specs.declared.Sheet.{Sheet}
@@ -44,15 +44,6 @@ module _ {A : Type 0} where
 
 -- ---- the positions of the buffer: bit m of segment n of channel i
 
--- parts of the sizes f, one after the other, have no position in common
-parts-apart : (f : ℕ → ℕ) (s t a b : ℕ) → a < f s → b < f t → sumTo f s + a ≡ sumTo f t + b → s ≡ t
-parts-apart f s t a b h k e = by (decLt s t) (decLt t s)
-  where
-    by : Dec (s < t) → Dec (t < s) → s ≡ t
-    by (yes l) d = absurd (omega (arith, sum-within f s t l))
-    by (no m) (yes l) = absurd (omega (arith, sum-within f t s l))
-    by (no m) (no l) = omega arith
-
 module _ (sh : Sheet) where
   abbrev pub spotOf : ℕ → ℕ → ℕ → ℕ
   spotOf i n m = channelStart sh i + n * sizeOf sh i + m
@@ -66,7 +57,7 @@ module _ (sh : Sheet) where
   spots-apart i n m j k o hn hm hk ho e =
       let a = digits-lt {q = n} {m = framesOf sh i} {r = m} {c = sizeOf sh i} hn hm in
       let b = digits-lt {q = k} {m = framesOf sh j} {r = o} {c = sizeOf sh j} hk ho in
-      let q : i ≡ j = parts-apart (equalisedOf sh) i j (n * sizeOf sh i + m) (k * sizeOf sh j + o) a b (omega arith) in
+      let q : i ≡ j = parts-apart (equalisedOf sh) i j (n * sizeOf sh i + m) (k * sizeOf sh j + o) a b (omega arith) .0 in
       let s : sumTo (equalisedOf sh) i ≡ sumTo (equalisedOf sh) j = ap (sumTo (equalisedOf sh)) q in
       let z : sizeOf sh j ≡ sizeOf sh i = ap (sizeOf sh) (sym q) in
       let w : k * sizeOf sh j ≡ k * sizeOf sh i = ap (λ (x : ℕ). k * x) z in

@@ -45,11 +45,6 @@ unfolding homeOf
 home-shared d N e j vs z h =
     map-at valueOf (heardOf d N e vs) j z Nothing (omega (arith, length-heard d N e vs)) ∙ ap valueOf (heard-shared d N e j vs h)
 
--- bit j, from 0, gets the joined values of its own copies, which stand together
-pub home-at : (d : ℤ) (N W e j : ℕ) (vs : List Float) (z : Float) → Rates d N W e → j < N
-    → getD (homeOf d N e vs) j z ≡ valueOf (joinOf (take (copiesOf d N e j) (drop (sentBefore d N e j) vs)))
-home-at d N W e j vs z r h = home-shared d N e j vs z h ∙ ap (λ (l : List Float). valueOf (joinOf l)) (shared-at d N W e j vs r h)
-
 -- where copy c of x came as f x c, it gets the join of f x 0, f x 1, .. of its own x
 pub home-matched : {A : Type 0} (f : A → ℕ → Float) (d : ℤ) (e j : ℕ) (xs : List A) (a : A) (z : Float) → j < length xs
     → getD (homeOf d (length xs) e (matched f d (length xs) e xs)) j z
@@ -57,12 +52,6 @@ pub home-matched : {A : Type 0} (f : A → ℕ → Float) (d : ℤ) (e j : ℕ) 
 home-matched f d e j xs a z h =
     home-shared d (length xs) e j (matched f d (length xs) e xs) z h
     ∙ ap (λ (l : List Float). valueOf (joinOf l)) (shared-matched f d e j xs a h)
-
--- the same, where what was sent came as h of it
-pub home-sent : {A B : Type 0} (f : A → ℕ → B) (h : B → Float) (d : ℤ) (e j : ℕ) (xs : List A) (a : A) (z : Float) → j < length xs
-    → getD (homeOf d (length xs) e (map h (matched f d (length xs) e xs))) j z
-    ≡ valueOf (joinOf (table (λ c. h (f (getD xs j a) c)) 0 (copiesOf d (length xs) e j)))
-home-sent f h d e j xs a z k = rw (← matched-map f h d (length xs) e xs) (home-matched (λ x c. h (f x c)) d e j xs a z k)
 
 -- bit j by itself, its values found without a walk: those from a up to b
 pub record Alone (d : ℤ) (N e j : ℕ) (vs : List Float) (a b : ℕ) : Type 0 where

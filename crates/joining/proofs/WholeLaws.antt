@@ -19,7 +19,7 @@ use Rattle.laws.specs.FirstFail.{NoneFails}
 use Rattle.laws.proofs.FirstFailLaws.{none-first, none-rest}
 use Rattle.sheet.specs.Counts.{mostBits}
 use Rattle.matching.specs.Signed.{signedBy}
-use Rattle.pattern.proofs.SegmentLaws.{magnitude}
+use Rattle.matching.proofs.SignedLaws.{magnitude}
 use Rattle.joining.specs.Joining.{sumOf, joinOf, valueOf}
 use Rattle.joining.specs.Whole.{Whole, smallWhole, wholeOf, total}
 

@@ -88,6 +88,18 @@ sum-parts f p n h = let e : n ≡ suc p + (n - suc p) = omega arith in ap (sumTo
 pub sum-within : (f : ℕ → ℕ) (p n : ℕ) → p < n → sumTo f p + f p ≤ sumTo f n
 sum-within f p n h = omega (arith, sum-parts f p n h)
 
+-- parts of the sizes f, one after the other, have no position in common
+pub parts-apart : (f : ℕ → ℕ) (s t a b : ℕ) → a < f s → b < f t → sumTo f s + a ≡ sumTo f t + b → (s ≡ t) × (a ≡ b)
+parts-apart f s t a b h k e =
+    let w = by (decLt s t) (decLt t s) in
+    let q : sumTo f s ≡ sumTo f t = ap (sumTo f) w in
+    (w, omega arith)
+  where
+    by : Dec (s < t) → Dec (t < s) → s ≡ t
+    by (yes l) d = absurd (omega (arith, sum-within f s t l))
+    by (no m) (yes l) = absurd (omega (arith, sum-within f t s l))
+    by (no m) (no l) = omega arith
+
 pub any-more : (f : ℕ → Bool) (i : ℕ) → anyTo f i ≡ false → f i ≡ false → anyTo f (i + 1) ≡ false
 unfolding anyTo
 any-more f i p q = ap (anyTo f) (add-one i) ∙ ap₂ _||_ p q

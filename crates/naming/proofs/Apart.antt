@@ -2,11 +2,10 @@
 use mathlib.Core.Path.{_≡_, sym, ap, _∙_}
 use mathlib.Core.Bool.{Bool, true, false, cond}
 use Prim.Native.Nat.{ℕ, _+_, _*_, _-_, _/_, _%_, _≤_, _<_}
-use native.Mathlib.Decide.{decLt}
 use native.Mathlib.Omega.{arith}
 use lib.Arith.{digits-div}
 use lib.Dec.{eqb}
-use Rattle.laws.proofs.SumLaws.{sum-within}
+use Rattle.laws.proofs.SumLaws.{parts-apart}
 use Rattle.sheet.specs.Fields.{ttiOf, phchsOf, capacityOf}
 use Rattle.sheet.specs.Sizes.{framesOf, sizeOf, slotCapacity, capacityAll}
 use Rattle.sheet.specs.Range.{Accepted}
@@ -85,17 +84,6 @@ module _ (sh : Sheet) (ok : Accepted sh) (frame : ℕ) where
 source-apart : (K i j : ℕ) → i < K → j < K → Second.sourceOf K i ≡ Second.sourceOf K j → i ≡ j
 source-apart K i j h k e = sym (place-source K i h) ∙ ap (Second.placeOf K) e ∙ place-source K j k
 
-slots-apart : (sh : Sheet) (s t a b : ℕ) → a < slotCapacity sh s → b < slotCapacity sh t → slotStart sh s + a ≡ slotStart sh t + b → (s ≡ t) × (a ≡ b)
-slots-apart sh s t a b h k e =
-    let w = by (decLt s t) (decLt t s) in
-    let q : slotStart sh s ≡ slotStart sh t = ap (slotStart sh) w in
-    (w, omega arith)
-  where
-    by : Dec (s < t) → Dec (t < s) → s ≡ t
-    by (yes l) d = absurd (omega (arith, sum-within (slotCapacity sh) s t l))
-    by (no m) (yes l) = absurd (omega (arith, sum-within (slotCapacity sh) t s l))
-    by (no m) (no l) = omega arith
-
 abbrev readBy : Sheet → Bool → ℕ → ℕ → ℕ
 readBy sh m t k =
     cond m (Second.sourceOf (capacityAll sh) (slotStart sh t + k)) (slotStart sh t + Second.sourceOf (slotCapacity sh t) k)
@@ -107,11 +95,11 @@ module _ (sh : Sheet) (s t a b : ℕ) (ls : s < sh .slots) (lt : t < sh .slots) 
     where
       by : (m : Bool) → readBy sh m s a ≡ readBy sh m t b → (s ≡ t) × (a ≡ b)
       by true e =
-          slots-apart sh s t a b h k
+          parts-apart (slotCapacity sh) s t a b h k
           (source-apart (capacityAll sh) (slotStart sh s + a) (slotStart sh t + b) (omega (arith, slot-room sh s ls)) (omega (arith, slot-room sh t lt)) e)
       by false e =
           let w =
-          slots-apart sh s t (Second.sourceOf (slotCapacity sh s) a) (Second.sourceOf (slotCapacity sh t) b) (source-below (slotCapacity sh s) a h)
+          parts-apart (slotCapacity sh) s t (Second.sourceOf (slotCapacity sh s) a) (Second.sourceOf (slotCapacity sh t) b) (source-below (slotCapacity sh s) a h)
           (source-below (slotCapacity sh t) b k) e in
           let q : slotCapacity sh t ≡ slotCapacity sh s = ap (slotCapacity sh) (sym (w .0)) in (
             w .0,

@@ -15,7 +15,7 @@ use Rattle.matching.specs.Signed.{signedBy}
 use Rattle.matching.specs.Shares.{cutOf, shareOf, changeOf, channelOf}
 use Rattle.pattern.specs.Pattern.{Rates, Segment}
 use Rattle.pattern.specs.Closed.{sourceOf, copyOf, Stood}
-use Rattle.pattern.proofs.SegmentLaws.{magnitude}
+use Rattle.matching.proofs.SignedLaws.{magnitude}
 use Rattle.pattern.proofs.StoodLaws.{stood-start}
 use Rattle.frame.specs.Frame.{startAt}
 use Rattle.frame.proofs.FrameLaws.{rates}

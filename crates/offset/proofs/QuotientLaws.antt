@@ -13,6 +13,7 @@ use Rattle.offset.specs.Ints.{floorDiv, floorOver, ceilOver, modOver}
 use Rattle.sheet.specs.Sizes.{framesIn}
 use Rattle.orders.specs.Orders.{columnAt}
 use Rattle.matching.specs.Signed.{signedBy}
+use Rattle.matching.proofs.SignedLaws.{magnitude}
 use Rattle.offset.specs.Offset.{remainderOf, qOf, euclid, gcd, addedOf, qF, yOf, filled, S, startOf}
 
 -- signed numbers that are not above 0
@@ -142,10 +143,6 @@ q-down (suc n) R h i =
     rw (chosen (suc n) R i, lt-ltb R (suc n) h, e) refl
 
 -- R
-pub r-pos : (m N : ℕ) → remainderOf (pos m) N ≡ m % N
-unfolding remainderOf modOver
-r-pos m N = refl
-
 pub r-neg : (m N : ℕ) → 0 < m → remainderOf (negℤ (pos m)) N ≡ N - 1 - (m - 1) % N
 unfolding remainderOf modOver
 r-neg zero N h = absurd (omega arith)
@@ -174,14 +171,10 @@ pub part-fits : (a F x : ℕ) → 0 < F → F ≤ 8 → x < 8 → x * addedOf a 
 part-fits a F x h i j = mul-le-mul {n₁ = x} {n₂ = 7} {m₂ = 8} (omega arith) (le-trans (added-le a F h) i)
 
 -- e
-abs-signed : (less : Bool) (m : ℕ) → natAbs (signedBy less m) ≡ m
-abs-signed false m = refl
-abs-signed true m = neg-abs m
-
 pub start-is : (n m tti frame f x p R k : ℕ) (less b : Bool) (s : List ℕ) → f ≡ framesIn tti → R ≡ remainderOf (signedBy less m) n → signedBy b k ≡ qOf n R → s ≡ filled (signedBy b k) f x → x ≡ f → p ≡ columnAt tti (frame % f) → (2 * getD s p 0 * m + 1) % (2 * n) ≡ startOf n (signedBy less m) tti frame
 unfolding startOf S
 start-is n m tti frame f x p R k less b s ef eR eq es ex ep =
-    rw (← eR, ← eq, abs-signed, es, ex, ep, ef) refl
+    rw (← eR, ← eq, magnitude, es, ex, ep, ef) refl
 
 pub product-le : (S m : ℕ) → S ≤ 131072 → m ≤ 60000 → 2 * S * m ≤ 15728640000
 product-le S m h i = mul-le-mul {n₁ = 2 * S} {m₁ = m} {n₂ = 262144} {m₂ = 60000} (omega arith) i

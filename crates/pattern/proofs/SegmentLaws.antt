@@ -7,14 +7,10 @@ use native.Mathlib.Omega.{arith}
 use lib.IntN.{pos, negsuc, natAbs}
 use Rattle.laws.specs.Sums.{sumTo}
 use Rattle.matching.specs.Signed.{signedBy}
+use Rattle.matching.proofs.SignedLaws.{magnitude}
 use Rattle.pattern.specs.Pattern.{walked, copiesFrom, sharedFrom, matched, copiesOf, shared, asIs, Stands, Segment}
 use Rattle.pattern.specs.Closed.{count, changed, sentBefore}
 use Rattle.pattern.proofs.MatchedLaws.{differs, started, matched-same, sent-all, sent-sum}
-
-pub magnitude : (less : Bool) (m : ℕ) → natAbs (signedBy less m) ≡ m
-magnitude false m = refl
-magnitude true zero = refl
-magnitude true (suc a) = refl
 
 -- how many bits come out
 pub sized-same : (less : Bool) (m N W e : ℕ) → Segment less m N W e → m ≡ 0 → W ≡ N
