@@ -8,7 +8,7 @@ ghost use Rattle.opening.specs.Opened.{Opens};
 ghost use Rattle.homing.specs.Gather.{gathered};
 ghost use Rattle.homing.specs.Home.{partOf};
 ghost use Rattle.homing.specs.Taking.{hearIn, surveyIn};
-ghost use Rattle.homing.specs.Receiving.{Askable, noLink, receptionOf, receivedInto, smallFrame, middleFrame, largeFrame};
+ghost use Rattle.homing.specs.Receiving.{Askable, receptionOf, receivedInto, smallFrame, middleFrame, largeFrame};
 use crate::gathering::gather_values;
 use crate::taking::hear_channel;
 use crate::taking::survey_channel;
@@ -37,16 +37,6 @@ pub enum Asked {
 pub struct Reception {
     pub heard: Heard,
     pub link: Link,
-}
-
-fn no_link() -> Link
-    ensures { λ r. ⌜ r ≡ noLink ⌝ }
-{
-    Link {
-        least: 0.0,
-        greatest: 0.0,
-        punctured: 0,
-    }
 }
 
 fn hear_part(values: &[f32], opened: Opened, number: FrameNumber, i: usize, m: usize) -> Heard
@@ -83,7 +73,7 @@ fn answer(
     match asked {
         Asked::All => {
             take_segments(values, opened, number, joined);
-            let link = no_link();
+            let link = Link::new();
             Reception {
                 heard: Heard::Nothing,
                 link,
@@ -91,7 +81,7 @@ fn answer(
         }
         Asked::Bit(i, m) => {
             let heard = hear_part(values, opened, number, i, m);
-            let link = no_link();
+            let link = Link::new();
             Reception { heard, link }
         }
         Asked::Channel(i) => {

@@ -43,11 +43,7 @@ pub struct Listened {
 fn refused(number: u32, at: u64) -> Listened
     ensures { λ r. ⌜ r ≡ listenedMade number at unheard ⌝ }
 {
-    let link = Link {
-        least: 0.0,
-        greatest: 0.0,
-        punctured: 0,
-    };
+    let link = Link::new();
     let reception = Reception {
         heard: Heard::Nothing,
         link,

@@ -2,6 +2,7 @@ use mathlib.Core.Path.{_≡_, refl, sym, ap, _∙_, subst}
 use lib.ListN.{length}
 use Rattle.joining.specs.declared.Heard.{Heard}
 use Rattle.joining.specs.declared.linking.Link.{Link}
+use Rattle.joining.proofs.LinkLaws.{link-none}
 use Rattle.homing.specs.declared.receiving.Asked.{Asked}
 use Rattle.homing.specs.declared.receiving.Reception.{Reception}
 use Rattle.homing.specs.Receiving.{Askable, receptionOf, receivedInto}
@@ -21,8 +22,8 @@ take-segments-requires c κs =
     let s = c .before .before .before .before .before in
     (s .pre .0, s .pre .1, subst (λ (x : Asked). Askable (s .args .opened .fields) x (length (s .args .joined .now))) (c .before .enum-told .given .1) (s .pre .2))
 
-no-link-requires : tie.Need-no-link-requires
-no-link-requires c κs = search needs
+new-requires : tie.Need-new-requires
+new-requires c κs = search needs
 
 enum-known-asked : tie.Need-enum-known-asked
 enum-known-asked c = search needs
@@ -34,8 +35,8 @@ hear-part-requires c κs =
     let k = subst (λ (x : Asked). Askable (s .args .opened .fields) x (length (s .args .joined .now))) (c .before .asked .given .1) (s .pre .2) in
     (s .pre .0, s .pre .1, k .0, k .1)
 
-no-link-requires-2 : tie.Need-no-link-requires-2
-no-link-requires-2 c κs = search needs
+new-requires-2 : tie.Need-new-requires-2
+new-requires-2 c κs = search needs
 
 enum-known-asked-2 : tie.Need-enum-known-asked-2
 enum-known-asked-2 c = search needs
@@ -58,7 +59,7 @@ returns c =
     let n = s .args .number .0 in
     let vs = s .args .values .now in
     let e = sym (t .before .before .enum-told .given .1) in
-    (made refl (c .no-link .ensures) ∙ ap (receptionOf sh n vs) e, t .take-segments .ensures ∙ ap (λ (x : Asked). receivedInto sh n vs x (s .args .joined .now)) e)
+    (made refl (c .new .ensures ∙ link-none) ∙ ap (receptionOf sh n vs) e, t .take-segments .ensures ∙ ap (λ (x : Asked). receivedInto sh n vs x (s .args .joined .now)) e)
 
 returns-2 : tie.Need-returns-2
 unfolding receptionOf receivedInto
@@ -69,7 +70,7 @@ returns-2 c =
     let n = s .args .number .0 in
     let vs = s .args .values .now in
     let e = sym (h .before .before .asked .given .1) in
-    (made (h .hear-part .ensures) (c .no-link2 .ensures) ∙ ap (receptionOf sh n vs) e, ap (λ (x : Asked). receivedInto sh n vs x (s .args .joined .now)) e)
+    (made (h .hear-part .ensures) (c .new2 .ensures ∙ link-none) ∙ ap (receptionOf sh n vs) e, ap (λ (x : Asked). receivedInto sh n vs x (s .args .joined .now)) e)
 
 returns-3 : tie.Need-returns-3
 unfolding receptionOf receivedInto
@@ -87,10 +88,10 @@ answer-spec =
     (tie.spec
     enum-told
     take-segments-requires
-    no-link-requires
+    new-requires
     enum-known-asked
     hear-part-requires
-    no-link-requires-2
+    new-requires-2
     enum-known-asked-2
     survey-part-requires
     same-length
