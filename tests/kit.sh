@@ -52,6 +52,7 @@ share/doc/ummervia/PROMISES.md
 share/doc/ummervia/SPEED.md
 share/doc/ummervia/examples/Makefile
 share/doc/ummervia/examples/example.sheet
+share/doc/ummervia/examples/picture.sheet
 share/doc/ummervia/examples/roundtrip.c
 share/doc/ummervia/examples/sizes.c
 share/doc/ummervia/examples/whereis.c
