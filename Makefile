@@ -47,7 +47,8 @@ test: setup
 	@$(MAKE) --no-print-directory ctest
 	@tail -n 1 target/ci.log | grep -Ex '[0-9]+ passed, 0 failed'
 
-ctest: target/c/calls target/c/values target/c/vectors target/c/random target/c/home target/c/picture target/c/sizes $(LISTER) $(PICTURE)
+ctest: target/c/calls target/c/values target/c/vectors target/c/random target/c/home target/c/picture target/c/tour target/c/sizes \
+	$(LISTER) $(PICTURE)
 	$(RUN) target/c/calls
 	$(RUN) target/c/values
 	@run() { if [ -f "$$2" ]; then echo "$(RUN) target/c/vectors $$*"; $(RUN) target/c/vectors "$$@"; \
@@ -58,6 +59,9 @@ ctest: target/c/calls target/c/values target/c/vectors target/c/random target/c/
 	$(RUN) target/c/home
 	tests/lister.sh $(RUN) $(LISTER)
 	tests/picture.sh $(PICTURE) target/c/picture $(RUN)
+	$(RUN) target/c/tour > target/c/tour.txt
+	@cmp -s target/c/tour.txt crates/tour/stdout || diff -au target/c/tour.txt crates/tour/stdout
+	@echo 'tour: as the plain C has it'
 	$(RUN) target/c/sizes examples/example.sheet
 	tests/kit.sh $(CC) $(RUN)
 	tests/reading.sh
@@ -126,6 +130,11 @@ target/c/%: examples/%.c include/ummervia.h $(ARCHIVE)
 target/c/%: bench/%.c include/ummervia.h $(ARCHIVE)
 	@mkdir -p $(@D)
 	$(CC) $(CFLAGS) -O3 $(filter %.c %.a,$^) -o $@
+
+# Linked without the archive, so that nothing of the library is in it.
+target/c/tour: tests/tour.c $(REFERENCE)
+	@mkdir -p $(@D)
+	$(CC) $(CFLAGS) $(filter %.c,$^) -o $@
 
 # What a program has beside the file of its name.
 target/c/vectors target/c/random target/c/picture target/c/bench: $(REFERENCE)
