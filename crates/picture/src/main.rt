@@ -20,9 +20,9 @@ use text::ROOM;
 use text::flush;
 use text::pair;
 use text::say;
-use ummervia::sizes;
 use ummervia::name;
 use ummervia::sheet_read;
+use ummervia::sizes;
 
 mod argument;
 mod cells;

@@ -35,7 +35,8 @@ pub fn gather(bytes: &[u8], frame: &[f32], out: &mut [f32]) -> Answer
     if looked.number != 0 {
         return looked;
     }
-    let mut room = [0.0f32; MOST_BITS as usize];
+    // Of ones, as the rooms of taking back are.
+    let mut room = [1.0f32; MOST_BITS as usize];
     let n = out.len();
     gather_values(frame, fields, &mut room[..n], out);
     Answer {

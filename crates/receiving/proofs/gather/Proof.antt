@@ -69,13 +69,13 @@ array-borrow-prefix-room c = fits c
 
 slice-aggregate-gather-values : tie.Need-slice-aggregate-gather-values
 slice-aggregate-gather-values c =
-    sym (room-part mostBits (length (c .before .before .before .before .before .before .before .before .before .before .before .before .args .out .now)) (ofBits binary32 0) (fits (c .before)))
+    sym (room-part mostBits (length (c .before .before .before .before .before .before .before .before .before .before .before .before .args .out .now)) (ofBits binary32 1065353216) (fits (c .before)))
 
 gather-values-requires : tie.Need-gather-values-requires
 gather-values-requires c κs =
     let e = c .before .before in
     let n = length (e .before .before .before .before .before .before .before .before .before .before .before .args .out .now) in
-    (opened (e .before .before .before .before .before) .accepted, long e .0, room-part mostBits n (ofBits binary32 0) (fits e) ∙ long e .1, long e .1)
+    (opened (e .before .before .before .before .before) .accepted, long e .0, room-part mostBits n (ofBits binary32 1065353216) (fits e) ∙ long e .1, long e .1)
 
 same-length : tie.Need-same-length
 same-length c = search needs
