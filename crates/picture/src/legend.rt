@@ -1,17 +1,17 @@
 // What stands above the frame: the title, what the marks mean, and each channel's numbers.
 ghost use Prim.Native.Nat.{_≤_, _<_};
-use crate::cells::COPIES;
-use crate::cells::FILLERS;
-use crate::cells::HOLES;
-use crate::cells::channel_look;
-use crate::cells::say_cell;
-use crate::text::ROOM;
-use crate::text::close_text;
-use crate::text::open_text;
-use crate::text::pair;
-use crate::text::say;
 use counters::FrameNumber;
 use counters::TrchNumber;
+use drawing::cells::COPIES;
+use drawing::cells::FILLERS;
+use drawing::cells::HOLES;
+use drawing::cells::channel_look;
+use drawing::cells::say_cell;
+use drawing::text::ROOM;
+use drawing::text::close_text;
+use drawing::text::open_text;
+use drawing::text::pair;
+use drawing::text::say;
 use sheet::counts::CHANNELS;
 use ummervia::ChannelAnswer;
 use ummervia::SizesAnswer;

@@ -3,35 +3,31 @@
 // gives an SVG too, which says the number and what it means.
 use counters::FrameNumber;
 use counters::PhchNumber;
-use frame::bottom;
-use frame::say_frame;
+use drawing::frame::bottom;
+use drawing::frame::say_frame;
+use drawing::scale::scale_of;
+use drawing::text::ROOM;
+use drawing::text::flush;
+use drawing::text::pair;
+use drawing::text::say;
 use legend::FIRST;
 use legend::LINE;
 use legend::say_channels;
 use legend::say_marks;
 use legend::say_title;
 use refusal::say_refusal;
-use scale::scale_of;
 use sheet::Sheet;
 use sheet::counts::LONGEST;
 use sheet::wide;
 use style::say_style;
-use text::ROOM;
-use text::flush;
-use text::pair;
-use text::say;
 use ummervia::name;
 use ummervia::sheet_read;
 use ummervia::sizes;
 
 mod argument;
-mod cells;
-mod frame;
 mod legend;
 mod refusal;
-mod scale;
 mod style;
-mod text;
 
 fn open_picture(out: &mut [u8; ROOM], height: u64) -> usize {
     let a = say(out, 0, b"<svg xmlns=\"http://www.w3.org/2000/svg\"");

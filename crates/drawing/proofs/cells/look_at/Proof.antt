@@ -1,7 +1,7 @@
 use Prim.Native.Nat.{_≤_, _-_}
 use borrow.Author.Needs.{needs}
-use Rattle.picture.proofs.cells.look_at.Statement.{statement}
-use Rattle.picture.proofs.cells.look_at.Tie as tie
+use Rattle.drawing.proofs.cells.look_at.Statement.{statement}
+use Rattle.drawing.proofs.cells.look_at.Tie as tie
 
 abbrev Inv-loop : tie.InvT-loop
 Inv-loop sheet frame e slot phch looks₀ n i₀ looks i = i ≤ n

@@ -1,7 +1,7 @@
 use Prim.Native.Nat.{_≤_, _-_}
 use borrow.Author.Needs.{needs}
-use Rattle.picture.proofs.cells.say_layer.Statement.{statement}
-use Rattle.picture.proofs.cells.say_layer.Tie as tie
+use Rattle.drawing.proofs.cells.say_layer.Statement.{statement}
+use Rattle.drawing.proofs.cells.say_layer.Tie as tie
 
 abbrev Inv-loop : tie.InvT-loop
 Inv-loop out₀ at looks n layer line from₀ k₀ t10 out from k = from ≤ n

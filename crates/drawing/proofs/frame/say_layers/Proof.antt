@@ -1,7 +1,7 @@
 use Prim.Native.Nat.{_≤_, _-_}
 use borrow.Author.Needs.{needs}
-use Rattle.picture.proofs.frame.say_layers.Statement.{statement}
-use Rattle.picture.proofs.frame.say_layers.Tie as tie
+use Rattle.drawing.proofs.frame.say_layers.Statement.{statement}
+use Rattle.drawing.proofs.frame.say_layers.Tie as tie
 
 abbrev Inv-loop : tie.InvT-loop
 Inv-loop out₀ at scale looks n k₀ layer₀ out k layer = layer ≤ 12

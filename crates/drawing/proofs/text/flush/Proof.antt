@@ -2,8 +2,8 @@ use mathlib.Core.Path.{sym}
 use native.Mathlib.Omega.{arith}
 use lib.Seq.{length-take-le}
 use borrow.Author.Needs.{needs}
-use Rattle.picture.proofs.text.flush.Statement.{statement}
-use Rattle.picture.proofs.text.flush.Tie as tie
+use Rattle.drawing.proofs.text.flush.Statement.{statement}
+use Rattle.drawing.proofs.text.flush.Tie as tie
 
 slice-aggregate-write-all : tie.Need-slice-aggregate-write-all
 slice-aggregate-write-all c = sym (length-take-le _ _ (omega arith))

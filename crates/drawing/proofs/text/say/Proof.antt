@@ -1,8 +1,8 @@
 use Prim.Native.Nat.{_≤_, _-_}
 use lib.ListN.{length}
 use borrow.Author.Needs.{needs}
-use Rattle.picture.proofs.text.say.Statement.{statement}
-use Rattle.picture.proofs.text.say.Tie as tie
+use Rattle.drawing.proofs.text.say.Statement.{statement}
+use Rattle.drawing.proofs.text.say.Tie as tie
 
 abbrev Inv-loop : tie.InvT-loop
 Inv-loop out₀ at text k₀ i₀ out k i = i ≤ length text

@@ -1,7 +1,7 @@
 use Prim.Native.Nat.{_+_, _*_, _≤_, _-_}
 use borrow.Author.Needs.{needs}
-use Rattle.picture.proofs.frame.bottom.Statement.{statement}
-use Rattle.picture.proofs.frame.bottom.Tie as tie
+use Rattle.drawing.proofs.frame.bottom.Statement.{statement}
+use Rattle.drawing.proofs.frame.bottom.Tie as tie
 
 abbrev Inv-loop : tie.InvT-loop
 Inv-loop scale y caps b₀ m₀ b m = (m ≤ 240) × (b ≤ 1400000 + 1400000 * m)

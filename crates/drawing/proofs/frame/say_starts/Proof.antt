@@ -1,7 +1,7 @@
 use Prim.Native.Nat.{_+_, _*_, _≤_, _-_}
 use borrow.Author.Needs.{needs}
-use Rattle.picture.proofs.frame.say_starts.Statement.{statement}
-use Rattle.picture.proofs.frame.say_starts.Tie as tie
+use Rattle.drawing.proofs.frame.say_starts.Statement.{statement}
+use Rattle.drawing.proofs.frame.say_starts.Tie as tie
 
 abbrev Inv-loop : tie.InvT-loop
 Inv-loop out₀ at scale y n rows k₀ row₀ place₀ t12 out k row place = (row ≤ rows) × (place ≤ 1 + 250 * row)

@@ -1,7 +1,7 @@
 use Prim.Native.Nat.{_+_, _*_, _≤_, _-_}
 use borrow.Author.Needs.{needs}
-use Rattle.picture.proofs.frame.say_frame.Statement.{statement}
-use Rattle.picture.proofs.frame.say_frame.Tie as tie
+use Rattle.drawing.proofs.frame.say_frame.Statement.{statement}
+use Rattle.drawing.proofs.frame.say_frame.Tie as tie
 
 abbrev Inv-loop : tie.InvT-loop
 Inv-loop out₀ at sheet frame scale y caps e k₀ top₀ m₀ out k top m = (m ≤ 240) × (top ≤ 1400000 + 1400000 * m)

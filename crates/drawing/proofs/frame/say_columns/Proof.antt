@@ -1,7 +1,7 @@
 use Prim.Native.Nat.{_≤_, _-_}
 use borrow.Author.Needs.{needs}
-use Rattle.picture.proofs.frame.say_columns.Statement.{statement}
-use Rattle.picture.proofs.frame.say_columns.Tie as tie
+use Rattle.drawing.proofs.frame.say_columns.Statement.{statement}
+use Rattle.drawing.proofs.frame.say_columns.Tie as tie
 
 abbrev Inv-loop : tie.InvT-loop
 Inv-loop out₀ at scale y k₀ x₀ column₀ t10 out k x column = (90 ≤ x) × (x ≤ 1100) × (column ≤ x)

@@ -1,0 +1,5 @@
+// A frame drawn as cells: text gathered in a buffer, the scale, what each place looks like, and the slots one below the other.
+pub mod cells;
+pub mod frame;
+pub mod scale;
+pub mod text;
