@@ -37,10 +37,10 @@ pub record Best (better : Float → Float → Bool) (l : Float) (xs : List Float
   pub none : NoneBetter better l xs
 
 -- an order of the values that pass a test
-record Order (ok : Float → Bool) (better : Float → Float → Bool) : Type 0 where
-  same : (x : Float) → ok x ≡ true → better x x ≡ false
-  other : (x y : Float) → ok x ≡ true → ok y ≡ true → better x y ≡ true → better y x ≡ false
-  on : (x y z : Float) → ok x ≡ true → ok y ≡ true → ok z ≡ true → better x y ≡ false → better y z ≡ false → better x z ≡ false
+pub record Order (ok : Float → Bool) (better : Float → Float → Bool) : Type 0 where
+  pub same : (x : Float) → ok x ≡ true → better x x ≡ false
+  pub other : (x y : Float) → ok x ≡ true → ok y ≡ true → better x y ≡ true → better y x ≡ false
+  pub on : (x y z : Float) → ok x ≡ true → ok y ≡ true → ok z ≡ true → better x y ≡ false → better y z ≡ false → better x z ≡ false
 
 module _ (ok : Float → Bool) (better : Float → Float → Bool) (o : Order ok better) where
   in-ok : (l : Float) (xs : List Float) → In l xs → NoneFails ok xs → ok l ≡ true
@@ -86,7 +86,7 @@ module _ (ok : Float → Bool) (better : Float → Float → Bool) (o : Order ok
 
 -- ---- finite values that are not below 0 are ordered
 
-abbrev plain : Float → Bool
+abbrev pub plain : Float → Bool
 plain nan = false
 plain (inf s) = false
 plain (fin true m e) = false
@@ -102,7 +102,7 @@ below-is (fin false m e) nan h k = absurd (false≢true k)
 below-is (fin false m e) (inf s) h k = absurd (false≢true k)
 below-is (fin false m e) (fin true n d) h k = absurd (false≢true k)
 
-upward : Order plain lt
+pub upward : Order plain lt
 upward =
     record {
       same = λ x h. below-is x x h h ∙ le-ltb (num x * den x) (num x * den x) (omega arith);

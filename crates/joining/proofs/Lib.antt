@@ -12,4 +12,5 @@ pub mod ValueLaws
 pub mod ExtremeLaws
 pub mod ZeroLaws
 pub mod MagnitudeLaws
+pub mod LaneLaws
 pub mod Example

@@ -49,7 +49,7 @@ same-bits s m n e d q =
     (div-same (n * up d * unit) (down d) (m * up e * unit) (down e) (down-pos d) (down-pos e)
     (mul-right-comm (n * up d) unit (down e) ∙ ap (λ (k : ℕ). k * unit) q ∙ mul-right-comm (m * up e) (down d) unit))
 
-same-value : (x : Float) (s : Bool) (m : ℕ) (e : ℤ) → T (fits binary32 x) → T (fits binary32 (fin s m e)) → HasValue x s (m * up e) (down e)
+pub same-value : (x : Float) (s : Bool) (m : ℕ) (e : ℤ) → T (fits binary32 x) → T (fits binary32 (fin s m e)) → HasValue x s (m * up e) (down e)
     → x ≡ fin s m e
 same-value nan s m e p q v = absurd v
 same-value (inf t) s m e p q v = absurd v

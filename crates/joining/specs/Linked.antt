@@ -56,3 +56,7 @@ unfoldable pub withHeard : Link → ℕ → Heard → Link
 withHeard l n Nothing = record { least = l .least; greatest = l .greatest; punctured = l .punctured + 1 }
 withHeard l n (Once x) = withValue l n x
 withHeard l n (Joined x k) = withValue l n x
+
+-- the records of two lanes of one walk, put together. Both have the punctured bits that came before the walk was dealt out, and none after
+abbrev pub bothOf : Link → Link → Link
+bothOf l k = record { least = lower (l .least) (k .least); greatest = higher (l .greatest) (k .greatest); punctured = l .punctured }

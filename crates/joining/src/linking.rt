@@ -8,7 +8,7 @@ ghost use Rattle.matching.specs.Signed.{signedBy};
 ghost use Rattle.pattern.specs.Pattern.{Segment};
 ghost use Rattle.joining.specs.declared.Heard.the-variants.{Once};
 ghost use Rattle.joining.specs.Joining.{heardOf};
-ghost use Rattle.joining.specs.Linked.{magnitudeOf, linkOf, withValue, withHeard};
+ghost use Rattle.joining.specs.Linked.{magnitudeOf, linkOf, withValue, withHeard, bothOf};
 use crate::Heard;
 use crate::walking::hear_next;
 
@@ -75,6 +75,69 @@ impl Link {
             Heard::Joined(x, _) => self.with_value(x, before),
         }
     }
+
+    // With the record of another lane.
+    fn together(self, other: Link) -> Link
+        ensures { λ r. ⌜ r ≡ bothOf self other ⌝ }
+    {
+        let mut l = self;
+        if other.least < self.least {
+            l.least = other.least;
+        }
+        if self.greatest < other.greatest {
+            l.greatest = other.greatest;
+        }
+        l
+    }
+}
+
+// Four records that start from the same one; the bits are dealt out to them, so that the compiler can treat four bits at once.
+struct Lanes {
+    a: Link,
+    b: Link,
+    c: Link,
+    d: Link,
+}
+
+impl Lanes {
+    fn new(l: Link) -> Lanes
+        ensures { λ r. ⌜ (r .a ≡ l) × (r .b ≡ l) × (r .c ≡ l) × (r .d ≡ l) ⌝ }
+    {
+        Lanes {
+            a: l,
+            b: l,
+            c: l,
+            d: l,
+        }
+    }
+
+    // Four bits more, one to each lane.
+    fn with(self, f: Heard, g: Heard, h: Heard, j: Heard, before: usize) -> Lanes
+        requires { ⌜ (before + 3 < 2 ^ 64) × (self .a .punctured + 1 < 2 ^ 64) × (self .b .punctured + 1 < 2 ^ 64) × (self .c .punctured + 1 < 2 ^ 64) × (self .d .punctured + 1 < 2 ^ 64) ⌝ }
+        ensures { λ r. ⌜ (r .a ≡ withHeard (self .a) before f) × (r .b ≡ withHeard (self .b) (before + 1) g) × (r .c ≡ withHeard (self .c) (before + 2) h) × (r .d ≡ withHeard (self .d) (before + 3) j) ⌝ }
+    {
+        let a = self.a;
+        let b = self.b;
+        let c = self.c;
+        let d = self.d;
+        Lanes {
+            a: a.with(f, before),
+            b: b.with(g, before + 1),
+            c: c.with(h, before + 2),
+            d: d.with(j, before + 3),
+        }
+    }
+
+    fn whole(self) -> Link
+        ensures { λ r. ⌜ r ≡ bothOf (bothOf (self .a) (self .b)) (bothOf (self .c) (self .d)) ⌝ }
+    {
+        let a = self.a;
+        let b = self.b;
+        let c = self.c;
+        let d = self.d;
+        let ab = a.together(b);
+        ab.together(c.together(d))
+    }
 }
 
 // Each value was heard alone. The first is put in before the loop, so that the loop need not ask for it; two a turn save moves between registers.
@@ -98,36 +161,41 @@ fn link_once(values: &[f32]) -> Link
     l
 }
 
-// d is above 0: each bit takes its next copies. One bit before the loop and two a turn, as in link_once.
+// d is above 0: each bit takes its next copies. The first bit starts the lanes, and what four leave over comes last.
 fn link_copies(values: &[f32], n: usize, start: usize, m: usize) -> Link
     requires { ⌜ Segment false m n (length (now values)) start × (0 < m) ⌝ }
     ensures { λ r. ⌜ r ≡ linkOf (heardOf (signedBy false m) n start (now (values .entry))) ⌝ }
 {
     let p = 2 * n;
     let q = 2 * m;
-    let mut l = Link::new();
     let first = hear_next(values, 0, false, p, q, start);
     let h = first.heard;
-    l = l.with(h, 0);
+    let mut w = Lanes::new(Link::new().with(h, 0));
     let mut e = first.e;
     let mut k = first.next;
-    let last = n - 1;
     let mut i: usize = 1;
-    while i < last {
-        let t = hear_next(values, k, false, p, q, e);
-        let h = t.heard;
-        l = l.with(h, i);
+    while i + 3 < n {
+        let s = hear_next(values, k, false, p, q, e);
+        let t = hear_next(values, s.next, false, p, q, s.e);
         let u = hear_next(values, t.next, false, p, q, t.e);
-        let g = u.heard;
-        l = l.with(g, i + 1);
-        e = u.e;
-        k = u.next;
-        i += 2;
+        let v = hear_next(values, u.next, false, p, q, u.e);
+        let f = s.heard;
+        let g = t.heard;
+        let h = u.heard;
+        let j = v.heard;
+        w = w.with(f, g, h, j, i);
+        e = v.e;
+        k = v.next;
+        i += 4;
     }
-    if i < n {
+    let mut l = w.whole();
+    while i < n {
         let t = hear_next(values, k, false, p, q, e);
         let h = t.heard;
         l = l.with(h, i);
+        e = t.e;
+        k = t.next;
+        i += 1;
     }
     l
 }

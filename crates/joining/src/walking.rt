@@ -1,10 +1,12 @@
 // Step 6 at one bit, for a walk over values that were sent.
 ghost use mathlib.Core.Path.{_≡_};
 ghost use Prim.Native.Nat.{_+_, _*_, _≤_};
+ghost use lib.Dec.{T};
 ghost use lib.ListN.{length, take, drop};
+ghost use lib.Ieee.{binary32, fits};
 ghost use Rattle.sheet.specs.Counts.{mostEncoded, mostBits};
 ghost use Rattle.pattern.specs.Pattern.{copiesAt, after, Stands};
-ghost use Rattle.joining.specs.Joining.{joinOf};
+ghost use Rattle.joining.specs.Joining.{joinOf, valueOf};
 use crate::Heard;
 
 // What was heard of the bit, where the copies of the next bit begin, and e as that bit finds it.
@@ -14,10 +16,10 @@ pub struct Step {
     pub e: usize,
 }
 
-// The bit's copies begin at k; p is 2N and q is 2|d|.
+// The bit's copies begin at k; p is 2N and q is 2|d|. What was heard fits an f32, as the order of magnitudes needs.
 pub fn hear_next(values: &[f32], k: usize, less: bool, p: usize, q: usize, start: usize) -> Step
     requires { ⌜ Stands less p q start × (p ≤ 2 * mostEncoded) × (q ≤ 2 * mostBits) × (k + copiesAt less p q start ≤ length (now values)) ⌝ }
-    ensures { λ r. ⌜ (r .heard ≡ joinOf (take (copiesAt less p q start) (drop k (now (values .entry))))) × (r .next ≡ k + copiesAt less p q start) × (r .e ≡ after less p q start) ⌝ }
+    ensures { λ r. ⌜ (r .heard ≡ joinOf (take (copiesAt less p q start) (drop k (now (values .entry))))) × (r .next ≡ k + copiesAt less p q start) × (r .e ≡ after less p q start) × T (fits binary32 (valueOf (r .heard))) ⌝ }
 {
     if q < start {
         return Step {

@@ -1,140 +1,204 @@
 use denote.Ref.{now}
-use mathlib.Core.Path.{_≡_, refl, ap, subst}
+use mathlib.Core.Path.{_≡_, refl, ap, _∙_, subst}
 use mathlib.Core.Bool.{false}
-use mathlib.Core.List.{List, [], map}
+use mathlib.Core.List.{List, [], _∷_, map}
 use Prim.Native.Nat.{ℕ, _+_, _*_, _-_, _≤_, _<_}
 use native.Mathlib.Omega.{arith}
 use borrow.Author.Needs.{needs}
-use lib.ListN.{length, take, drop}
-use lib.Ieee.{Float}
+use lib.Dec.{T}
+use lib.ListN.{length, take, drop, length-drop}
+use lib.Seq.{length-take-le}
+use lib.Ieee.{Float, binary32, fits}
 use Rattle.matching.specs.Signed.{signedBy}
 use Rattle.pattern.specs.Pattern.{copiesAt, after, sharedFrom}
 use Rattle.pattern.proofs.SegmentLaws.{begins}
 use Rattle.joining.specs.declared.Heard.{Heard}
 use Rattle.joining.specs.declared.linking.Link.{Link}
-use Rattle.joining.specs.Joining.{joinOf, heardOf}
-use Rattle.joining.specs.Linked.{linkOf, withHeard}
+use Rattle.joining.specs.Joining.{joinOf, valueOf, heardOf}
+use Rattle.joining.specs.Linked.{linkOf, withHeard, bothOf}
 use Rattle.joining.proofs.HomeLaws.{heard-by}
 use Rattle.joining.proofs.PlaceLaws.{Place, left, place-start, place-room, place-next, left-next}
-use Rattle.joining.proofs.LinkLaws.{Surveying, survey-start, survey-turn, survey-end}
+use Rattle.joining.proofs.LinkLaws.{link-none, Surveying, survey-start, survey-turn, survey-end}
+use Rattle.joining.proofs.LaneLaws.{Voiced, voiced, Dealt, none-dealt, deal-start, deal-a, deal-b, deal-c, deal-d}
 use Rattle.joining.proofs.linking.link_copies.Statement.{statement}
 use Rattle.joining.proofs.linking.link_copies.Tie as tie
 
--- l has the first i bits
+-- what hear_next says of the bit whose copies begin at k
+abbrev Hears : ℕ → ℕ → List Float → ℕ → ℕ → Heard → ℕ → ℕ → Type 0
+Hears m n vs e k h k′ e′ =
+    let P = 2 * n in let D = 2 * m in
+    (h ≡ joinOf (take (copiesAt false P D e) (drop k vs))) × (k′ ≡ k + copiesAt false P D e) × (e′ ≡ after false P D e) × T (fits binary32 (valueOf h))
+
+record Next (m n : ℕ) (vs : List Float) (e k i e′ k′ : ℕ) (h : Heard) : Type 0 where
+  place : Place false m n vs e′ k′ (i + 1)
+  bits : map joinOf (left false m n vs e k i) ≡ h ∷ map joinOf (left false m n vs e′ k′ (i + 1))
+  voice : Voiced h
+
+hears : {m n e k i e′ k′ : ℕ} {vs : List Float} {h : Heard} → Place false m n vs e k i → i < n → Hears m n vs e k h k′ e′ → Next m n vs e k i e′ k′ h
+hears {m} {n} {e} {k} {vs = vs} p b t =
+    let c = copiesAt false (2 * n) (2 * m) e in
+    let l = length-take-le c (drop k vs) (rw length-drop (omega (arith, place-room p b))) in
+    let next = ap (map joinOf) (left-next p b (t .1) (t .2)) in
+    record { place = place-next p b (t .1) (t .2); bits = rw (← t .0) at next; voice = voiced (take c (drop k vs)) (t .0) (omega (arith, l)) (t .3) }
+
+-- l has the first i bits, and so have the lanes
 abbrev Held : ℕ → ℕ → List Float → List Heard → Link → ℕ → ℕ → ℕ → Type 0
 Held m n vs all l e k i = Place false m n vs e k i × Surveying all l i (map joinOf (left false m n vs e k i))
 
+abbrev InLanes : ℕ → ℕ → List Float → List Heard → Link → Link → Link → Link → ℕ → ℕ → ℕ → Type 0
+InLanes m n vs all a b c d e k i = Place false m n vs e k i × Dealt all a b c d i (map joinOf (left false m n vs e k i))
+
 turn : {m n e k i e′ k′ : ℕ} {vs : List Float} {all : List Heard} {l l′ : Link} {h : Heard} → Held m n vs all l e k i → i < n
-    → let P = 2 * n in let D = 2 * m in
-    (h ≡ joinOf (take (copiesAt false P D e) (drop k vs))) × (k′ ≡ k + copiesAt false P D e) × (e′ ≡ after false P D e)
-    → l′ ≡ withHeard l i h → Held m n vs all l′ e′ k′ (i + 1)
-turn w b t q =
-    let next = ap (map joinOf) (left-next (w .0) b (t .1) (t .2)) in
-    (place-next (w .0) b (t .1) (t .2), survey-turn (w .1) (rw (← t .0) at next) q)
+    → Hears m n vs e k h k′ e′ → l′ ≡ withHeard l i h → Held m n vs all l′ e′ k′ (i + 1)
+turn w b t q = let x = hears (w .0) b t in (x .place, survey-turn (w .1) (x .bits) q)
 
 done : {m n e k i : ℕ} {vs : List Float} {all : List Heard} {l : Link} → Held m n vs all l e k i → n ≤ i → l ≡ linkOf all
 done {n = n} {i = i} w h = let z : n - i ≡ 0 = omega arith in survey-end (w .1) (rw z (unfold sharedFrom in refl))
 
 abbrev Inv-loop : tie.InvT-loop
-Inv-loop values n start m p q l₀ e₀ k₀ last i₀ l e k i = Held m n values (heardOf (signedBy false m) n start values) l e k i
+Inv-loop values n start m p q w₀ e₀ k₀ i₀ w e k i =
+    InLanes m n values (heardOf (signedBy false m) n start values) (w .a) (w .b) (w .c) (w .d) e k i
 
 abbrev μ-loop : tie.MeasureT-loop
-μ-loop values n start m p q l₀ e₀ k₀ last i₀ l e k i = n - i
+μ-loop values n start m p q w₀ e₀ k₀ i₀ w e k i = n - i
 
-mul-p : tie.Need-mul-p Inv-loop μ-loop
+abbrev Inv-loop2 : tie.InvT-loop2
+Inv-loop2 values n start m p q e₀ k₀ i₀ l₀ e k i l = Held m n values (heardOf (signedBy false m) n start values) l e k i
+
+abbrev μ-loop2 : tie.MeasureT-loop2
+μ-loop2 values n start m p q e₀ k₀ i₀ l₀ e k i l = n - i
+
+mul-p : tie.Need-mul-p Inv-loop μ-loop Inv-loop2 μ-loop2
 mul-p c = omega (arith, c .before .pre .0 .few)
 
-mul-q : tie.Need-mul-q Inv-loop μ-loop
+mul-q : tie.Need-mul-q Inv-loop μ-loop Inv-loop2 μ-loop2
 mul-q c = omega (arith, c .before .pre .0 .most)
 
-new-requires : tie.Need-new-requires Inv-loop μ-loop
-new-requires c κs = search needs
-
-hear-next-requires : tie.Need-hear-next-requires Inv-loop μ-loop
+hear-next-requires : tie.Need-hear-next-requires Inv-loop μ-loop Inv-loop2 μ-loop2
 hear-next-requires c κs =
-    let u = c .before .before in
+    let u = c .before in
     let a = u .args in
     let p = place-start false (a .m) (a .n) (a .start) (now (a .values)) (u .pre .0) (u .pre .1) in
     let b = begins false (a .m) (a .n) (length (now (a .values))) (a .start) (u .pre .0) (u .pre .1) in
     (p .here, omega arith, omega arith, place-room p (b .0))
 
-with-requires : tie.Need-with-requires Inv-loop μ-loop
-with-requires c κs = omega (arith, survey-start [] (c .before .new .ensures) .counted)
+new-requires : tie.Need-new-requires Inv-loop μ-loop Inv-loop2 μ-loop2
+new-requires c κs = search needs
 
-sub-last : tie.Need-sub-last Inv-loop μ-loop
-sub-last c =
-    let u = c .before .before .before .before in
-    let a = u .args in
-    omega (arith, begins false (a .m) (a .n) (length (now (a .values))) (a .start) (u .pre .0) (u .pre .1))
+with-requires : tie.Need-with-requires Inv-loop μ-loop Inv-loop2 μ-loop2
+with-requires c κs = omega (arith, survey-start [] (c .new .ensures) .counted)
 
-loop-holds : tie.Need-loop-holds Inv-loop μ-loop
+new-requires-2 : tie.Need-new-requires-2 Inv-loop μ-loop Inv-loop2 μ-loop2
+new-requires-2 c κs = search needs
+
+loop-holds : tie.Need-loop-holds Inv-loop μ-loop Inv-loop2 μ-loop2
 loop-holds c =
-    let u = c .before .before .before .before in
+    let u = c .before .before .before .before .before in
     let a = u .args in
     let v = now (a .values) in
     let z : a .n - 0 ≡ a .n = omega arith in
     let p = place-start false (a .m) (a .n) (a .start) v (u .pre .0) (u .pre .1) in
     let b = begins false (a .m) (a .n) (length v) (a .start) (u .pre .0) (u .pre .1) in
     let all = heardOf (signedBy false (a .m)) (a .n) (a .start) v in
-    let s : Surveying all (c .before .before .new .result) 0 (map joinOf (left false (a .m) (a .n) v (a .start) 0 0)) =
-    rw (z, ← heard-by false (a .m) (a .n) (a .start) v (u .pre .1)) (survey-start all (c .before .before .new .ensures)) in
-    turn (p, s) (b .0) (c .before .hear-next .ensures) (c .with .ensures)
+    let new = c .before .before .new in
+    let s : Surveying all (new .result) 0 (map joinOf (left false (a .m) (a .n) v (a .start) 0 0)) =
+    rw (z, ← heard-by false (a .m) (a .n) (a .start) v (u .pre .1)) (survey-start all (new .ensures)) in
+    let h = c .before .before .before .hear-next in
+    let x = hears p (b .0) (h .ensures) in
+    let w = turn (p, s) (b .0) (h .ensures) (c .before .with .ensures) in
+    (x .place, deal-start (new .result) (h .result .heard) (ap (λ (l : Link). l .punctured) (new .ensures ∙ link-none)) (c .before .with .ensures) (x .voice) (c .new2 .ensures) (w .1))
 
-hear-next-requires-2 : tie.Need-hear-next-requires-2 Inv-loop μ-loop
+add-loop : tie.Need-add-loop Inv-loop μ-loop Inv-loop2 μ-loop2
+add-loop c = omega (arith, c .loop .inv .0 .few)
+
+hear-next-requires-2 : tie.Need-hear-next-requires-2 Inv-loop μ-loop Inv-loop2 μ-loop2
 hear-next-requires-2 c κs =
     let p = c .before .loop .inv .0 in
     (p .here, omega arith, omega arith, place-room p (omega arith))
 
-with-requires-2 : tie.Need-with-requires-2 Inv-loop μ-loop
-with-requires-2 c κs = let l = c .before .before .loop in omega (arith, l .inv .1 .counted)
-
-hear-next-requires-3 : tie.Need-hear-next-requires-3 Inv-loop μ-loop
+hear-next-requires-3 : tie.Need-hear-next-requires-3 Inv-loop μ-loop Inv-loop2 μ-loop2
 hear-next-requires-3 c κs =
+    let l = c .before .before .loop in
+    let x = hears (l .inv .0) (omega arith) (c .hear-next2 .ensures) in
+    (x .place .here, omega arith, omega arith, place-room (x .place) (omega arith))
+
+hear-next-requires-4 : tie.Need-hear-next-requires-4 Inv-loop μ-loop Inv-loop2 μ-loop2
+hear-next-requires-4 c κs =
     let l = c .before .before .before .loop in
-    let p = turn (l .inv) (omega arith) (c .before .hear-next2 .ensures) (c .with2 .ensures) .0 in
-    (p .here, omega arith, omega arith, place-room p (omega arith))
+    let x = hears (l .inv .0) (omega arith) (c .before .hear-next2 .ensures) in
+    let y = hears (x .place) (omega arith) (c .hear-next3 .ensures) in
+    (y .place .here, omega arith, omega arith, place-room (y .place) (omega arith))
 
-add-with : tie.Need-add-with Inv-loop μ-loop
-add-with c = omega arith
-
-with-requires-3 : tie.Need-with-requires-3 Inv-loop μ-loop
-with-requires-3 c κs =
+hear-next-requires-5 : tie.Need-hear-next-requires-5 Inv-loop μ-loop Inv-loop2 μ-loop2
+hear-next-requires-5 c κs =
     let l = c .before .before .before .before .loop in
-    omega (arith, turn (l .inv) (omega arith) (c .before .before .hear-next2 .ensures) (c .before .with2 .ensures) .1 .counted)
+    let x = hears (l .inv .0) (omega arith) (c .before .before .hear-next2 .ensures) in
+    let y = hears (x .place) (omega arith) (c .before .hear-next3 .ensures) in
+    let z = hears (y .place) (omega arith) (c .hear-next4 .ensures) in
+    (z .place .here, omega arith, omega arith, place-room (z .place) (omega arith))
 
-add-i : tie.Need-add-i Inv-loop μ-loop
-add-i c = omega arith
+with-requires-2 : tie.Need-with-requires-2 Inv-loop μ-loop Inv-loop2 μ-loop2
+with-requires-2 c κs =
+    let d = none-dealt (c .before .before .before .before .before .loop .inv .1) in
+    (omega arith, omega arith, omega arith, omega arith, omega arith)
 
-loop-less : tie.Need-loop-less Inv-loop μ-loop
+add-i : tie.Need-add-i Inv-loop μ-loop Inv-loop2 μ-loop2
+add-i c = let l = c .before .before .before .before .before .before .loop in omega (arith, c .before .before .before .before .before .loop-test .taken, l .inv .0 .few)
+
+loop-less : tie.Need-loop-less Inv-loop μ-loop Inv-loop2 μ-loop2
 loop-less c = omega arith
 
-loop-again : tie.Need-loop-again Inv-loop μ-loop
+loop-again : tie.Need-loop-again Inv-loop μ-loop Inv-loop2 μ-loop2
 loop-again c =
-    let l = c .before .before .before .before .before .loop in
-    let a = c .before .before .before .before .before .before .before .before .before .before .args in
-    let u = c .before .hear-next3 in
-    let z : l .i + 1 + 1 ≡ l .i + 2 = omega arith in
-    let w = turn (l .inv) (omega arith) (c .before .before .before .hear-next2 .ensures) (c .before .before .with2 .ensures) in
+    let l = c .before .before .before .before .before .before .loop in
+    let u = c .before .before .before .before .before .before .before .before .before .before .before .before in
+    let a = u .args in
     let v = now (a .values) in
     let all = heardOf (signedBy false (a .m)) (a .n) (a .start) v in
-    subst (Held (a .m) (a .n) v all (c .with3 .result) (u .result .e) (u .result .next)) z
-    (turn w (omega arith) (u .ensures) (c .with3 .ensures))
+    let h = c .before .hear-next5 in
+    let in-loop : l .i + 3 < a .n = c .before .before .before .before .before .loop-test .taken in
+    let x = hears (l .inv .0) (omega (arith, in-loop)) (c .before .before .before .before .hear-next2 .ensures) in
+    let y = hears (x .place) (omega (arith, in-loop)) (c .before .before .before .hear-next3 .ensures) in
+    let z = hears (y .place) (omega (arith, in-loop)) (c .before .before .hear-next4 .ensures) in
+    let t = hears (z .place) (omega (arith, in-loop)) (h .ensures) in
+    let r = c .with2 .ensures in
+    let da = deal-a (l .inv .1) (x .bits) (x .voice) (l .inv .1 .some) (r .0) in
+    let db = deal-b da (y .bits) (y .voice) (omega arith) (r .1) in
+    let dc = deal-c db (z .bits) (z .voice) (omega arith) (r .2) in
+    let dd = deal-d dc (t .bits) (t .voice) (omega arith) (r .3) in
+    let w = c .with2 .result in
+    let four : l .i + 1 + 1 + 1 + 1 ≡ l .i + 4 = omega arith in
+    subst (InLanes (a .m) (a .n) v all (w .a) (w .b) (w .c) (w .d) (h .result .e) (h .result .next)) four (t .place, dd)
 
-hear-next-requires-4 : tie.Need-hear-next-requires-4 Inv-loop μ-loop
-hear-next-requires-4 c κs =
-    let p = c .before .before .loop .inv .0 in
+whole-requires : tie.Need-whole-requires Inv-loop μ-loop Inv-loop2 μ-loop2
+whole-requires c κs = search needs
+
+loop2-holds : tie.Need-loop2-holds Inv-loop μ-loop Inv-loop2 μ-loop2
+loop2-holds c =
+    let l = c .before .before .loop in
+    (l .inv .0, rw (c .whole .ensures) (l .inv .1 .whole))
+
+hear-next-requires-6 : tie.Need-hear-next-requires-6 Inv-loop μ-loop Inv-loop2 μ-loop2
+hear-next-requires-6 c κs =
+    let p = c .before .loop2 .inv .0 in
     (p .here, omega arith, omega arith, place-room p (omega arith))
 
-with-requires-4 : tie.Need-with-requires-4 Inv-loop μ-loop
-with-requires-4 c κs = let l = c .before .before .before .loop in omega (arith, l .inv .1 .counted)
+with-requires-3 : tie.Need-with-requires-3 Inv-loop μ-loop Inv-loop2 μ-loop2
+with-requires-3 c κs = let l = c .before .before .loop2 in omega (arith, l .inv .1 .counted, l .inv .0 .few)
 
-returns : tie.Need-returns Inv-loop μ-loop
-returns c =
-    let l = c .before .before .before .before .loop in
-    done (turn (l .inv) (omega arith) (c .before .hear-next4 .ensures) (c .with4 .ensures)) (omega arith)
+add-i-2 : tie.Need-add-i-2 Inv-loop μ-loop Inv-loop2 μ-loop2
+add-i-2 c = omega arith
 
-returns-2 : tie.Need-returns-2 Inv-loop μ-loop
-returns-2 c = done (c .before .before .loop .inv) (omega arith)
+loop2-less : tie.Need-loop2-less Inv-loop μ-loop Inv-loop2 μ-loop2
+loop2-less c = omega arith
+
+loop2-again : tie.Need-loop2-again Inv-loop μ-loop Inv-loop2 μ-loop2
+loop2-again c =
+    let l = c .before .before .before .loop2 in
+    turn (l .inv) (omega arith) (c .before .hear-next6 .ensures) (c .with3 .ensures)
+
+returns : tie.Need-returns Inv-loop μ-loop Inv-loop2 μ-loop2
+returns c = done (c .before .loop2 .inv) (omega arith)
 
 pub link-copies-spec : {M : Type 1} → statement M
 link-copies-spec =
@@ -142,22 +206,29 @@ link-copies-spec =
     (tie.spec
     Inv-loop
     μ-loop
+    Inv-loop2
+    μ-loop2
     mul-p
     mul-q
-    new-requires
     hear-next-requires
+    new-requires
     with-requires
-    sub-last
+    new-requires-2
     loop-holds
+    add-loop
     hear-next-requires-2
-    with-requires-2
     hear-next-requires-3
-    add-with
-    with-requires-3
+    hear-next-requires-4
+    hear-next-requires-5
+    with-requires-2
     add-i
     loop-less
     loop-again
-    hear-next-requires-4
-    with-requires-4
-    returns
-    returns-2)
+    whole-requires
+    loop2-holds
+    hear-next-requires-6
+    with-requires-3
+    add-i-2
+    loop2-less
+    loop2-again
+    returns)

@@ -5,11 +5,14 @@ use Prim.Native.Nat.{ℕ, suc, _+_, _*_, _-_, _≤_, _<_}
 use native.Mathlib.Nat.{suc-mul}
 use native.Mathlib.Omega.{arith}
 use borrow.Author.Needs.{needs}
+use lib.Dec.{T}
 use lib.ListN.{length, getD}
-use lib.Ieee.{nan}
+use lib.Ieee.{nan, binary32, fits}
+use lib.Ieee.Fits.{add-fits}
 use Rattle.pattern.specs.Pattern.{grown, copiesAt, after}
 use Rattle.pattern.proofs.CountLaws.{again-more, grown-yes, grown-no}
 use Rattle.joining.specs.declared.Heard.the-variants.{Joined}
+use Rattle.joining.specs.Joining.{valueOf}
 use Rattle.joining.proofs.JoinLaws.{summed, sum-turn, sum-end, join-none, join-one, join-many}
 use Rattle.joining.proofs.walking.hear_next.Statement.{statement}
 use Rattle.joining.proofs.walking.hear_next.Tie as tie
@@ -21,6 +24,7 @@ Inv-loop values k less p q start sum₀ i₀ e₀ sum i e =
     (k < i) × (e ≤ q + p) × (0 < e) × (end ≤ length values) × (end ≡ i + grown false p q e)
     × (start + grown false p q start * p ≡ e + grown false p q e * p)
     × (summed values sum i end ≡ summed values (getD values k nan) (k + 1) end)
+    × T (fits binary32 sum)
 
 abbrev μ-loop : tie.MeasureT-loop
 μ-loop values k less p q start sum₀ i₀ e₀ sum i e = q + 1 - e
@@ -52,10 +56,11 @@ sub-t16 : tie.Need-sub-t16 Inv-loop μ-loop
 sub-t16 c = omega arith
 
 returns : tie.Need-returns Inv-loop μ-loop
+unfolding valueOf
 returns c =
     let a = c .before .before .args in
     let o = once (a .less) (a .p) (a .q) (a .start) (omega arith) in
-    (sym (join-one (now (a .values)) (a .k) (copiesAt (a .less) (a .p) (a .q) (a .start)) (o .0) (omega arith)), omega arith, sym (o .1))
+    (sym (join-one (now (a .values)) (a .k) (copiesAt (a .less) (a .p) (a .q) (a .start)) (o .0) (omega arith)), omega arith, sym (o .1), c .shared-slice-known .given (a .k))
 
 add-t18 : tie.Need-add-t18 Inv-loop μ-loop
 add-t18 c = omega arith
@@ -64,11 +69,12 @@ sub-t19 : tie.Need-sub-t19 Inv-loop μ-loop
 sub-t19 c = omega (arith, c .before .before .pre .0 .most (c .if2 .taken))
 
 returns-2 : tie.Need-returns-2 Inv-loop μ-loop
+unfolding fits valueOf
 returns-2 c =
     let a = c .before .before .args in
     let g = grown-yes (a .p) (a .q) (a .start) (omega arith) in
     let n = ap (λ (n : ℕ). n * a .p) g in
-    rw (c .if2 .taken) (sym (join-none (now (a .values)) (a .k) (1 - grown true (a .p) (a .q) (a .start)) (omega arith)), omega arith, omega arith)
+    rw (c .if2 .taken) (sym (join-none (now (a .values)) (a .k) (1 - grown true (a .p) (a .q) (a .start)) (omega arith)), omega arith, omega arith, tt)
 
 mul-sum : tie.Need-mul-sum Inv-loop μ-loop
 mul-sum c = search needs
@@ -82,7 +88,7 @@ add-i c = omega arith
 loop-holds : tie.Need-loop-holds Inv-loop μ-loop
 loop-holds c =
     let h = rw (c .before .if2 .left) at (c .before .before .before .pre .3) in
-    (omega arith, omega arith, omega arith, omega arith, omega arith, refl, refl)
+    (omega arith, omega arith, omega arith, omega arith, omega arith, refl, refl, c .shared-slice-known2 .given (c .before .before .before .args .k))
 
 mul-sum-2 : tie.Need-mul-sum-2 Inv-loop μ-loop
 mul-sum-2 c = search needs
@@ -117,6 +123,7 @@ loop-again c =
       omega arith,
       omega arith,
       sym (sum-turn (now (a .values)) (l .i) end (l .sum) (omega arith) (omega arith)) ∙ l .inv .6,
+      add-fits binary32 (l .sum) (getD (now (a .values)) (l .i) nan),
     )
 
 sub-t20 : tie.Need-sub-t20 Inv-loop μ-loop
@@ -126,6 +133,7 @@ sub-t28 : tie.Need-sub-t28 Inv-loop μ-loop
 sub-t28 c = omega arith
 
 returns-3 : tie.Need-returns-3 Inv-loop μ-loop
+unfolding valueOf
 returns-3 c =
     let l = c .before .loop in
     let a = c .before .before .before .before .before .args in
@@ -139,6 +147,7 @@ returns-3 c =
       ap₂ Joined (sym (sum-end v (l .i) (a .k + many) (l .sum) (omega arith)) ∙ l .inv .6) c′ ∙ sym (join-many v (a .k) many (omega arith) (omega arith)),
       omega arith,
       omega arith,
+      l .inv .7,
     )
 
 pub hear-next-spec : {M : Type 1} → statement M
