@@ -174,7 +174,8 @@ fn link_copies(values: &[f32], n: usize, start: usize, m: usize) -> Link
     let mut e = first.e;
     let mut k = first.next;
     let mut i: usize = 1;
-    while i + 3 < n {
+    let last = if 3 < n { n - 3 } else { 0 };
+    while i < last {
         let s = hear_next(values, k, false, p, q, e);
         let t = hear_next(values, s.next, false, p, q, s.e);
         let u = hear_next(values, t.next, false, p, q, t.e);

@@ -2,6 +2,7 @@ use denote.Ref.{now}
 use mathlib.Core.Path.{_≡_, refl, ap, _∙_, subst}
 use mathlib.Core.Bool.{false}
 use mathlib.Core.List.{List, [], _∷_, map}
+use mathlib.Core.Logic.{⊎-elim}
 use Prim.Native.Nat.{ℕ, _+_, _*_, _-_, _≤_, _<_}
 use native.Mathlib.Omega.{arith}
 use borrow.Author.Needs.{needs}
@@ -10,7 +11,8 @@ use lib.ListN.{length, take, drop, length-drop}
 use lib.Seq.{length-take-le}
 use lib.Ieee.{Float, binary32, fits}
 use Rattle.matching.specs.Signed.{signedBy}
-use Rattle.pattern.specs.Pattern.{copiesAt, after, sharedFrom}
+use Rattle.sheet.specs.Counts.{mostEncoded, mostBits}
+use Rattle.pattern.specs.Pattern.{copiesAt, after, sharedFrom, Stands}
 use Rattle.pattern.proofs.SegmentLaws.{begins}
 use Rattle.joining.specs.declared.Heard.{Heard}
 use Rattle.joining.specs.declared.linking.Link.{Link}
@@ -45,8 +47,17 @@ hears {m} {n} {e} {k} {vs = vs} p b t =
 abbrev Held : ℕ → ℕ → List Float → List Heard → Link → ℕ → ℕ → ℕ → Type 0
 Held m n vs all l e k i = Place false m n vs e k i × Surveying all l i (map joinOf (left false m n vs e k i))
 
-abbrev InLanes : ℕ → ℕ → List Float → List Heard → Link → Link → Link → Link → ℕ → ℕ → ℕ → Type 0
-InLanes m n vs all a b c d e k i = Place false m n vs e k i × Dealt all a b c d i (map joinOf (left false m n vs e k i))
+abbrev InLanes : ℕ → ℕ → List Float → List Heard → ℕ → Link → Link → Link → Link → ℕ → ℕ → ℕ → Type 0
+InLanes m n vs all last a b c d e k i = Place false m n vs e k i × Dealt all a b c d i (map joinOf (left false m n vs e k i)) × (last ≤ n - 3)
+
+-- what hear_next asks for
+asks : {m n e k i : ℕ} {vs : List Float} → Place false m n vs e k i → i < n
+    → Stands false (2 * n) (2 * m) e × (2 * n ≤ 2 * mostEncoded) × (2 * m ≤ 2 * mostBits) × (k + copiesAt false (2 * n) (2 * m) e ≤ length vs)
+asks p b = (p .here, omega (arith, p .few), omega (arith, p .most), place-room p b)
+
+-- the four bits of a turn are there
+there : (i last n : ℕ) → i < last → last ≤ n - 3 → (i < n) × (i + 1 < n) × (i + 1 + 1 < n) × (i + 1 + 1 + 1 < n)
+there i last n h k = (omega arith, omega arith, omega arith, omega arith)
 
 turn : {m n e k i e′ k′ : ℕ} {vs : List Float} {all : List Heard} {l l′ : Link} {h : Heard} → Held m n vs all l e k i → i < n
     → Hears m n vs e k h k′ e′ → l′ ≡ withHeard l i h → Held m n vs all l′ e′ k′ (i + 1)
@@ -56,17 +67,17 @@ done : {m n e k i : ℕ} {vs : List Float} {all : List Heard} {l : Link} → Hel
 done {n = n} {i = i} w h = let z : n - i ≡ 0 = omega arith in survey-end (w .1) (rw z (unfold sharedFrom in refl))
 
 abbrev Inv-loop : tie.InvT-loop
-Inv-loop values n start m p q w₀ e₀ k₀ i₀ w e k i =
-    InLanes m n values (heardOf (signedBy false m) n start values) (w .a) (w .b) (w .c) (w .d) e k i
+Inv-loop values n start m p q w₀ e₀ k₀ i₀ last w e k i =
+    InLanes m n values (heardOf (signedBy false m) n start values) last (w .a) (w .b) (w .c) (w .d) e k i
 
 abbrev μ-loop : tie.MeasureT-loop
-μ-loop values n start m p q w₀ e₀ k₀ i₀ w e k i = n - i
+μ-loop values n start m p q w₀ e₀ k₀ i₀ last w e k i = n - i
 
 abbrev Inv-loop2 : tie.InvT-loop2
-Inv-loop2 values n start m p q e₀ k₀ i₀ l₀ e k i l = Held m n values (heardOf (signedBy false m) n start values) l e k i
+Inv-loop2 values n start m p q e₀ k₀ i₀ last l₀ e k i l = Held m n values (heardOf (signedBy false m) n start values) l e k i
 
 abbrev μ-loop2 : tie.MeasureT-loop2
-μ-loop2 values n start m p q e₀ k₀ i₀ l₀ e k i l = n - i
+μ-loop2 values n start m p q e₀ k₀ i₀ last l₀ e k i l = n - i
 
 mul-p : tie.Need-mul-p Inv-loop μ-loop Inv-loop2 μ-loop2
 mul-p c = omega (arith, c .before .pre .0 .few)
@@ -80,7 +91,7 @@ hear-next-requires c κs =
     let a = u .args in
     let p = place-start false (a .m) (a .n) (a .start) (now (a .values)) (u .pre .0) (u .pre .1) in
     let b = begins false (a .m) (a .n) (length (now (a .values))) (a .start) (u .pre .0) (u .pre .1) in
-    (p .here, omega arith, omega arith, place-room p (b .0))
+    asks p (b .0)
 
 new-requires : tie.Need-new-requires Inv-loop μ-loop Inv-loop2 μ-loop2
 new-requires c κs = search needs
@@ -91,51 +102,56 @@ with-requires c κs = omega (arith, survey-start [] (c .new .ensures) .counted)
 new-requires-2 : tie.Need-new-requires-2 Inv-loop μ-loop Inv-loop2 μ-loop2
 new-requires-2 c κs = search needs
 
+sub-last : tie.Need-sub-last Inv-loop μ-loop Inv-loop2 μ-loop2
+sub-last c = omega arith
+
 loop-holds : tie.Need-loop-holds Inv-loop μ-loop Inv-loop2 μ-loop2
 loop-holds c =
-    let u = c .before .before .before .before .before in
+    let u = c .before .before .before .before .before .before in
     let a = u .args in
     let v = now (a .values) in
     let z : a .n - 0 ≡ a .n = omega arith in
     let p = place-start false (a .m) (a .n) (a .start) v (u .pre .0) (u .pre .1) in
     let b = begins false (a .m) (a .n) (length v) (a .start) (u .pre .0) (u .pre .1) in
     let all = heardOf (signedBy false (a .m)) (a .n) (a .start) v in
-    let new = c .before .before .new in
+    let new = c .before .before .before .new in
     let s : Surveying all (new .result) 0 (map joinOf (left false (a .m) (a .n) v (a .start) 0 0)) =
     rw (z, ← heard-by false (a .m) (a .n) (a .start) v (u .pre .1)) (survey-start all (new .ensures)) in
-    let h = c .before .before .before .hear-next in
+    let h = c .before .before .before .before .hear-next in
     let x = hears p (b .0) (h .ensures) in
-    let w = turn (p, s) (b .0) (h .ensures) (c .before .with .ensures) in
-    (x .place, deal-start (new .result) (h .result .heard) (ap (λ (l : Link). l .punctured) (new .ensures ∙ link-none)) (c .before .with .ensures) (x .voice) (c .new2 .ensures) (w .1))
-
-add-loop : tie.Need-add-loop Inv-loop μ-loop Inv-loop2 μ-loop2
-add-loop c = omega (arith, c .loop .inv .0 .few)
+    let w = turn (p, s) (b .0) (h .ensures) (c .before .before .with .ensures) in
+    let d = deal-start (new .result) (h .result .heard) (ap (λ (l : Link). l .punctured) (new .ensures ∙ link-none)) (c .before .before .with .ensures) (x .voice) (c .before .new2 .ensures) (w .1) in
+    (x .place, d, ⊎-elim (λ w. omega (arith, w)) (λ w. omega (arith, w)) (c .if1 .came))
 
 hear-next-requires-2 : tie.Need-hear-next-requires-2 Inv-loop μ-loop Inv-loop2 μ-loop2
 hear-next-requires-2 c κs =
-    let p = c .before .loop .inv .0 in
-    (p .here, omega arith, omega arith, place-room p (omega arith))
+    let l = c .before .loop in
+    let b = there (l .i) (c .before .before .if1 .last) (c .before .before .before .before .before .before .before .before .args .n) (c .loop-test .taken) (l .inv .2) in
+    asks (l .inv .0) (b .0)
 
 hear-next-requires-3 : tie.Need-hear-next-requires-3 Inv-loop μ-loop Inv-loop2 μ-loop2
 hear-next-requires-3 c κs =
     let l = c .before .before .loop in
-    let x = hears (l .inv .0) (omega arith) (c .hear-next2 .ensures) in
-    (x .place .here, omega arith, omega arith, place-room (x .place) (omega arith))
+    let b = there (l .i) (c .before .before .before .if1 .last) (c .before .before .before .before .before .before .before .before .before .args .n) (c .before .loop-test .taken) (l .inv .2) in
+    let x = hears (l .inv .0) (b .0) (c .hear-next2 .ensures) in
+    asks (x .place) (b .1)
 
 hear-next-requires-4 : tie.Need-hear-next-requires-4 Inv-loop μ-loop Inv-loop2 μ-loop2
 hear-next-requires-4 c κs =
     let l = c .before .before .before .loop in
-    let x = hears (l .inv .0) (omega arith) (c .before .hear-next2 .ensures) in
-    let y = hears (x .place) (omega arith) (c .hear-next3 .ensures) in
-    (y .place .here, omega arith, omega arith, place-room (y .place) (omega arith))
+    let b = there (l .i) (c .before .before .before .before .if1 .last) (c .before .before .before .before .before .before .before .before .before .before .args .n) (c .before .before .loop-test .taken) (l .inv .2) in
+    let x = hears (l .inv .0) (b .0) (c .before .hear-next2 .ensures) in
+    let y = hears (x .place) (b .1) (c .hear-next3 .ensures) in
+    asks (y .place) (b .2)
 
 hear-next-requires-5 : tie.Need-hear-next-requires-5 Inv-loop μ-loop Inv-loop2 μ-loop2
 hear-next-requires-5 c κs =
     let l = c .before .before .before .before .loop in
-    let x = hears (l .inv .0) (omega arith) (c .before .before .hear-next2 .ensures) in
-    let y = hears (x .place) (omega arith) (c .before .hear-next3 .ensures) in
-    let z = hears (y .place) (omega arith) (c .hear-next4 .ensures) in
-    (z .place .here, omega arith, omega arith, place-room (z .place) (omega arith))
+    let b = there (l .i) (c .before .before .before .before .before .if1 .last) (c .before .before .before .before .before .before .before .before .before .before .before .args .n) (c .before .before .before .loop-test .taken) (l .inv .2) in
+    let x = hears (l .inv .0) (b .0) (c .before .before .hear-next2 .ensures) in
+    let y = hears (x .place) (b .1) (c .before .hear-next3 .ensures) in
+    let z = hears (y .place) (b .2) (c .hear-next4 .ensures) in
+    asks (z .place) (b .3)
 
 with-requires-2 : tie.Need-with-requires-2 Inv-loop μ-loop Inv-loop2 μ-loop2
 with-requires-2 c κs =
@@ -143,7 +159,7 @@ with-requires-2 c κs =
     (omega arith, omega arith, omega arith, omega arith, omega arith)
 
 add-i : tie.Need-add-i Inv-loop μ-loop Inv-loop2 μ-loop2
-add-i c = let l = c .before .before .before .before .before .before .loop in omega (arith, c .before .before .before .before .before .loop-test .taken, l .inv .0 .few)
+add-i c = let l = c .before .before .before .before .before .before .loop in omega (arith, c .before .before .before .before .before .loop-test .taken, l .inv .0 .few, l .inv .2)
 
 loop-less : tie.Need-loop-less Inv-loop μ-loop Inv-loop2 μ-loop2
 loop-less c = omega arith
@@ -151,16 +167,17 @@ loop-less c = omega arith
 loop-again : tie.Need-loop-again Inv-loop μ-loop Inv-loop2 μ-loop2
 loop-again c =
     let l = c .before .before .before .before .before .before .loop in
-    let u = c .before .before .before .before .before .before .before .before .before .before .before .before in
+    let u = c .before .before .before .before .before .before .before .before .before .before .before .before .before in
     let a = u .args in
     let v = now (a .values) in
     let all = heardOf (signedBy false (a .m)) (a .n) (a .start) v in
     let h = c .before .hear-next5 in
-    let in-loop : l .i + 3 < a .n = c .before .before .before .before .before .loop-test .taken in
-    let x = hears (l .inv .0) (omega (arith, in-loop)) (c .before .before .before .before .hear-next2 .ensures) in
-    let y = hears (x .place) (omega (arith, in-loop)) (c .before .before .before .hear-next3 .ensures) in
-    let z = hears (y .place) (omega (arith, in-loop)) (c .before .before .hear-next4 .ensures) in
-    let t = hears (z .place) (omega (arith, in-loop)) (h .ensures) in
+    let last = c .before .before .before .before .before .before .before .if1 .last in
+    let b = there (l .i) last (a .n) (c .before .before .before .before .before .loop-test .taken) (l .inv .2) in
+    let x = hears (l .inv .0) (b .0) (c .before .before .before .before .hear-next2 .ensures) in
+    let y = hears (x .place) (b .1) (c .before .before .before .hear-next3 .ensures) in
+    let z = hears (y .place) (b .2) (c .before .before .hear-next4 .ensures) in
+    let t = hears (z .place) (b .3) (h .ensures) in
     let r = c .with2 .ensures in
     let da = deal-a (l .inv .1) (x .bits) (x .voice) (l .inv .1 .some) (r .0) in
     let db = deal-b da (y .bits) (y .voice) (omega arith) (r .1) in
@@ -168,7 +185,7 @@ loop-again c =
     let dd = deal-d dc (t .bits) (t .voice) (omega arith) (r .3) in
     let w = c .with2 .result in
     let four : l .i + 1 + 1 + 1 + 1 ≡ l .i + 4 = omega arith in
-    subst (InLanes (a .m) (a .n) v all (w .a) (w .b) (w .c) (w .d) (h .result .e) (h .result .next)) four (t .place, dd)
+    subst (InLanes (a .m) (a .n) v all last (w .a) (w .b) (w .c) (w .d) (h .result .e) (h .result .next)) four (t .place, dd, l .inv .2)
 
 whole-requires : tie.Need-whole-requires Inv-loop μ-loop Inv-loop2 μ-loop2
 whole-requires c κs = search needs
@@ -181,7 +198,7 @@ loop2-holds c =
 hear-next-requires-6 : tie.Need-hear-next-requires-6 Inv-loop μ-loop Inv-loop2 μ-loop2
 hear-next-requires-6 c κs =
     let p = c .before .loop2 .inv .0 in
-    (p .here, omega arith, omega arith, place-room p (omega arith))
+    asks p (omega arith)
 
 with-requires-3 : tie.Need-with-requires-3 Inv-loop μ-loop Inv-loop2 μ-loop2
 with-requires-3 c κs = let l = c .before .before .loop2 in omega (arith, l .inv .1 .counted, l .inv .0 .few)
@@ -214,8 +231,8 @@ link-copies-spec =
     new-requires
     with-requires
     new-requires-2
+    sub-last
     loop-holds
-    add-loop
     hear-next-requires-2
     hear-next-requires-3
     hear-next-requires-4
