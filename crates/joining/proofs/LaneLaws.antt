@@ -8,13 +8,12 @@ use Prim.Native.Nat.{ℕ, zero, suc, _+_, _*_, _<_}
 use native.Mathlib.Omega.{arith}
 use borrow.Author.Tests.{ne-eqb, ltb-false}
 use lib.Dec.{T}
-use lib.IntN.{ℤ}
 use lib.ListN.{length}
 use lib.Ieee.{Float, nan, inf, fin, binary32, up, down, lt, fits}
 use Rattle.joining.specs.declared.Heard.{Heard}
 use Rattle.joining.specs.declared.linking.Link.{Link}
 use Rattle.joining.specs.Joining.{joinOf, valueOf}
-use Rattle.joining.specs.Linked.{magnitudeOf, lower, higher, withMagnitude, withValue, withHeard, bothOf}
+use Rattle.joining.specs.Linked.{magnitudeOf, withMagnitude, withValue, withHeard, bothOf}
 use Rattle.joining.proofs.ExtremeLaws.{upward}
 use Rattle.joining.proofs.MagnitudeLaws.{same-value}
 use Rattle.joining.proofs.LinkLaws.{first-value, Surveying, survey-turn}

@@ -1,6 +1,6 @@
 -- The walk over the values sent of a segment: where e stands before bit i, which values are left, and what one bit does to both.
 use mathlib.Core.Path.{_≡_, ap}
-use mathlib.Core.Bool.{Bool}
+use mathlib.Core.Bool.{Bool, true, false}
 use mathlib.Core.List.{List, _∷_}
 use Prim.Native.Nat.{ℕ, suc, _+_, _*_, _-_, _≤_, _<_}
 use native.Mathlib.Omega.{arith}
@@ -9,10 +9,27 @@ use lib.Seq.{drop-drop}
 use lib.Ieee.{Float}
 use Rattle.laws.specs.Sums.{sumTo}
 use Rattle.sheet.specs.Counts.{mostEncoded, mostBits}
-use Rattle.pattern.specs.Pattern.{copiesAt, after, copiesFrom, sharedFrom, Stands, Segment}
-use Rattle.pattern.proofs.CountLaws.{after-stands}
+use Rattle.pattern.specs.Pattern.{grown, copiesAt, after, copiesFrom, sharedFrom, Stands, Segment}
+use Rattle.pattern.proofs.CountLaws.{again-more, grown-no, after-stands}
 use Rattle.pattern.proofs.WalkLaws.{first-apart}
 use Rattle.pattern.proofs.SegmentLaws.{stands, sized-copies}
+
+-- ---- one bit
+
+-- e does not grow: the bit is sent once
+pub once : (less : Bool) (p q e : ℕ) → q < e → (copiesAt less p q e ≡ 1) × (after less p q e ≡ e - q)
+once less p q e h = let g = ap (λ (n : ℕ). n * p) (grown-no less p q e h) in (go less, omega arith)
+  where
+    go : (less : Bool) → copiesAt less p q e ≡ 1
+    go true = omega (arith, grown-no true p q e h)
+    go false = omega (arith, grown-no false p q e h)
+
+-- it grows: once more than from e + p on
+pub more : (p q e : ℕ) → 0 < p → 0 < e → e ≤ q → grown false p q e ≡ suc (grown false p q (e + p))
+unfolding grown
+more p q e h k l = again-more p q e h k l
+
+-- ---- the walk
 
 -- the values from k on are those of the bits from i on
 pub record Place (less : Bool) (m N : ℕ) (vs : List Float) (e k i : ℕ) : Type 0 where

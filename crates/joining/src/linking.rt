@@ -10,7 +10,7 @@ ghost use Rattle.joining.specs.declared.Heard.the-variants.{Once};
 ghost use Rattle.joining.specs.Joining.{heardOf};
 ghost use Rattle.joining.specs.Linked.{magnitudeOf, linkOf, withValue, withHeard, bothOf};
 use crate::Heard;
-use crate::walking::hear_next;
+use crate::walking::hear_sent;
 
 pub struct Link {
     pub least: f32,
@@ -168,7 +168,7 @@ fn link_copies(values: &[f32], n: usize, start: usize, m: usize) -> Link
 {
     let p = 2 * n;
     let q = 2 * m;
-    let first = hear_next(values, 0, false, p, q, start);
+    let first = hear_sent(values, 0, p, q, start);
     let h = first.heard;
     let mut w = Lanes::new(Link::new().with(h, 0));
     let mut e = first.e;
@@ -176,10 +176,10 @@ fn link_copies(values: &[f32], n: usize, start: usize, m: usize) -> Link
     let mut i: usize = 1;
     let last = if 3 < n { n - 3 } else { 0 };
     while i < last {
-        let s = hear_next(values, k, false, p, q, e);
-        let t = hear_next(values, s.next, false, p, q, s.e);
-        let u = hear_next(values, t.next, false, p, q, t.e);
-        let v = hear_next(values, u.next, false, p, q, u.e);
+        let s = hear_sent(values, k, p, q, e);
+        let t = hear_sent(values, s.next, p, q, s.e);
+        let u = hear_sent(values, t.next, p, q, t.e);
+        let v = hear_sent(values, u.next, p, q, u.e);
         let f = s.heard;
         let g = t.heard;
         let h = u.heard;
@@ -191,7 +191,7 @@ fn link_copies(values: &[f32], n: usize, start: usize, m: usize) -> Link
     }
     let mut l = w.whole();
     while i < n {
-        let t = hear_next(values, k, false, p, q, e);
+        let t = hear_sent(values, k, p, q, e);
         let h = t.heard;
         l = l.with(h, i);
         e = t.e;

@@ -1,5 +1,6 @@
 // Step 6 at one bit, for a walk over values that were sent.
 ghost use mathlib.Core.Path.{_≡_};
+ghost use mathlib.Core.Bool.{false};
 ghost use Prim.Native.Nat.{_+_, _*_, _≤_};
 ghost use lib.Dec.{T};
 ghost use lib.ListN.{length, take, drop};
@@ -16,10 +17,10 @@ pub struct Step {
     pub e: usize,
 }
 
-// The bit's copies begin at k; p is 2N and q is 2|d|. What was heard fits an f32, as the order of magnitudes needs.
+// The bit's copies begin at k; p is 2N and q is 2|d|.
 pub fn hear_next(values: &[f32], k: usize, less: bool, p: usize, q: usize, start: usize) -> Step
     requires { ⌜ Stands less p q start × (p ≤ 2 * mostEncoded) × (q ≤ 2 * mostBits) × (k + copiesAt less p q start ≤ length (now values)) ⌝ }
-    ensures { λ r. ⌜ (r .heard ≡ joinOf (take (copiesAt less p q start) (drop k (now (values .entry))))) × (r .next ≡ k + copiesAt less p q start) × (r .e ≡ after less p q start) × T (fits binary32 (valueOf (r .heard))) ⌝ }
+    ensures { λ r. ⌜ (r .heard ≡ joinOf (take (copiesAt less p q start) (drop k (now (values .entry))))) × (r .next ≡ k + copiesAt less p q start) × (r .e ≡ after less p q start) ⌝ }
 {
     if q < start {
         return Step {
@@ -46,6 +47,34 @@ pub fn hear_next(values: &[f32], k: usize, less: bool, p: usize, q: usize, start
     Step {
         heard: Heard::Joined(sum, i - k),
         next: i,
+        e: e - q,
+    }
+}
+
+// The same where each bit was sent. It reads before it asks: the walk that only looks at the values is faster so, and the one that writes
+// them is not. What was heard fits an f32, as the order of magnitudes needs.
+pub fn hear_sent(values: &[f32], k: usize, p: usize, q: usize, start: usize) -> Step
+    requires { ⌜ Stands false p q start × (p ≤ 2 * mostEncoded) × (q ≤ 2 * mostBits) × (k + copiesAt false p q start ≤ length (now values)) ⌝ }
+    ensures { λ r. ⌜ (r .heard ≡ joinOf (take (copiesAt false p q start) (drop k (now (values .entry))))) × (r .next ≡ k + copiesAt false p q start) × (r .e ≡ after false p q start) × T (fits binary32 (valueOf (r .heard))) ⌝ }
+{
+    let mut sum = values[k];
+    let mut next = k + 1;
+    if q < start {
+        return Step {
+            heard: Heard::Once(sum),
+            next: next,
+            e: start - q,
+        };
+    }
+    let mut e = start;
+    while e <= q {
+        sum = sum + values[next];
+        next += 1;
+        e += p;
+    }
+    Step {
+        heard: Heard::Joined(sum, next - k),
+        next: next,
         e: e - q,
     }
 }

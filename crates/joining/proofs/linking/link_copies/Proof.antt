@@ -17,7 +17,7 @@ use Rattle.pattern.proofs.SegmentLaws.{begins}
 use Rattle.joining.specs.declared.Heard.{Heard}
 use Rattle.joining.specs.declared.linking.Link.{Link}
 use Rattle.joining.specs.Joining.{joinOf, valueOf, heardOf}
-use Rattle.joining.specs.Linked.{linkOf, withHeard, bothOf}
+use Rattle.joining.specs.Linked.{linkOf, withHeard}
 use Rattle.joining.proofs.HomeLaws.{heard-by}
 use Rattle.joining.proofs.PlaceLaws.{Place, left, place-start, place-room, place-next, left-next}
 use Rattle.joining.proofs.LinkLaws.{link-none, Surveying, survey-start, survey-turn, survey-end}
@@ -25,7 +25,7 @@ use Rattle.joining.proofs.LaneLaws.{Voiced, voiced, Dealt, none-dealt, 
 use Rattle.joining.proofs.linking.link_copies.Statement.{statement}
 use Rattle.joining.proofs.linking.link_copies.Tie as tie
 
--- what hear_next says of the bit whose copies begin at k
+-- what hear_sent says of the bit whose copies begin at k
 abbrev Hears : ℕ → ℕ → List Float → ℕ → ℕ → Heard → ℕ → ℕ → Type 0
 Hears m n vs e k h k′ e′ =
     let P = 2 * n in let D = 2 * m in
@@ -43,14 +43,15 @@ hears {m} {n} {e} {k} {vs = vs} p b t =
     let next = ap (map joinOf) (left-next p b (t .1) (t .2)) in
     record { place = place-next p b (t .1) (t .2); bits = rw (← t .0) at next; voice = voiced (take c (drop k vs)) (t .0) (omega (arith, l)) (t .3) }
 
--- l has the first i bits, and so have the lanes
+-- l has the first i bits
 abbrev Held : ℕ → ℕ → List Float → List Heard → Link → ℕ → ℕ → ℕ → Type 0
 Held m n vs all l e k i = Place false m n vs e k i × Surveying all l i (map joinOf (left false m n vs e k i))
 
+-- and so have the lanes
 abbrev InLanes : ℕ → ℕ → List Float → List Heard → ℕ → Link → Link → Link → Link → ℕ → ℕ → ℕ → Type 0
 InLanes m n vs all last a b c d e k i = Place false m n vs e k i × Dealt all a b c d i (map joinOf (left false m n vs e k i)) × (last ≤ n - 3)
 
--- what hear_next asks for
+-- what hear_sent asks for
 asks : {m n e k i : ℕ} {vs : List Float} → Place false m n vs e k i → i < n
     → Stands false (2 * n) (2 * m) e × (2 * n ≤ 2 * mostEncoded) × (2 * m ≤ 2 * mostBits) × (k + copiesAt false (2 * n) (2 * m) e ≤ length vs)
 asks p b = (p .here, omega (arith, p .few), omega (arith, p .most), place-room p b)
@@ -85,8 +86,8 @@ mul-p c = omega (arith, c .before .pre .0 .few)
 mul-q : tie.Need-mul-q Inv-loop μ-loop Inv-loop2 μ-loop2
 mul-q c = omega (arith, c .before .pre .0 .most)
 
-hear-next-requires : tie.Need-hear-next-requires Inv-loop μ-loop Inv-loop2 μ-loop2
-hear-next-requires c κs =
+hear-sent-requires : tie.Need-hear-sent-requires Inv-loop μ-loop Inv-loop2 μ-loop2
+hear-sent-requires c κs =
     let u = c .before in
     let a = u .args in
     let p = place-start false (a .m) (a .n) (a .start) (now (a .values)) (u .pre .0) (u .pre .1) in
@@ -117,40 +118,40 @@ loop-holds c =
     let new = c .before .before .before .new in
     let s : Surveying all (new .result) 0 (map joinOf (left false (a .m) (a .n) v (a .start) 0 0)) =
     rw (z, ← heard-by false (a .m) (a .n) (a .start) v (u .pre .1)) (survey-start all (new .ensures)) in
-    let h = c .before .before .before .before .hear-next in
+    let h = c .before .before .before .before .hear-sent in
     let x = hears p (b .0) (h .ensures) in
     let w = turn (p, s) (b .0) (h .ensures) (c .before .before .with .ensures) in
     let d = deal-start (new .result) (h .result .heard) (ap (λ (l : Link). l .punctured) (new .ensures ∙ link-none)) (c .before .before .with .ensures) (x .voice) (c .before .new2 .ensures) (w .1) in
     (x .place, d, ⊎-elim (λ w. omega (arith, w)) (λ w. omega (arith, w)) (c .if1 .came))
 
-hear-next-requires-2 : tie.Need-hear-next-requires-2 Inv-loop μ-loop Inv-loop2 μ-loop2
-hear-next-requires-2 c κs =
+hear-sent-requires-2 : tie.Need-hear-sent-requires-2 Inv-loop μ-loop Inv-loop2 μ-loop2
+hear-sent-requires-2 c κs =
     let l = c .before .loop in
     let b = there (l .i) (c .before .before .if1 .last) (c .before .before .before .before .before .before .before .before .args .n) (c .loop-test .taken) (l .inv .2) in
     asks (l .inv .0) (b .0)
 
-hear-next-requires-3 : tie.Need-hear-next-requires-3 Inv-loop μ-loop Inv-loop2 μ-loop2
-hear-next-requires-3 c κs =
+hear-sent-requires-3 : tie.Need-hear-sent-requires-3 Inv-loop μ-loop Inv-loop2 μ-loop2
+hear-sent-requires-3 c κs =
     let l = c .before .before .loop in
     let b = there (l .i) (c .before .before .before .if1 .last) (c .before .before .before .before .before .before .before .before .before .args .n) (c .before .loop-test .taken) (l .inv .2) in
-    let x = hears (l .inv .0) (b .0) (c .hear-next2 .ensures) in
+    let x = hears (l .inv .0) (b .0) (c .hear-sent2 .ensures) in
     asks (x .place) (b .1)
 
-hear-next-requires-4 : tie.Need-hear-next-requires-4 Inv-loop μ-loop Inv-loop2 μ-loop2
-hear-next-requires-4 c κs =
+hear-sent-requires-4 : tie.Need-hear-sent-requires-4 Inv-loop μ-loop Inv-loop2 μ-loop2
+hear-sent-requires-4 c κs =
     let l = c .before .before .before .loop in
     let b = there (l .i) (c .before .before .before .before .if1 .last) (c .before .before .before .before .before .before .before .before .before .before .args .n) (c .before .before .loop-test .taken) (l .inv .2) in
-    let x = hears (l .inv .0) (b .0) (c .before .hear-next2 .ensures) in
-    let y = hears (x .place) (b .1) (c .hear-next3 .ensures) in
+    let x = hears (l .inv .0) (b .0) (c .before .hear-sent2 .ensures) in
+    let y = hears (x .place) (b .1) (c .hear-sent3 .ensures) in
     asks (y .place) (b .2)
 
-hear-next-requires-5 : tie.Need-hear-next-requires-5 Inv-loop μ-loop Inv-loop2 μ-loop2
-hear-next-requires-5 c κs =
+hear-sent-requires-5 : tie.Need-hear-sent-requires-5 Inv-loop μ-loop Inv-loop2 μ-loop2
+hear-sent-requires-5 c κs =
     let l = c .before .before .before .before .loop in
     let b = there (l .i) (c .before .before .before .before .before .if1 .last) (c .before .before .before .before .before .before .before .before .before .before .before .args .n) (c .before .before .before .loop-test .taken) (l .inv .2) in
-    let x = hears (l .inv .0) (b .0) (c .before .before .hear-next2 .ensures) in
-    let y = hears (x .place) (b .1) (c .before .hear-next3 .ensures) in
-    let z = hears (y .place) (b .2) (c .hear-next4 .ensures) in
+    let x = hears (l .inv .0) (b .0) (c .before .before .hear-sent2 .ensures) in
+    let y = hears (x .place) (b .1) (c .before .hear-sent3 .ensures) in
+    let z = hears (y .place) (b .2) (c .hear-sent4 .ensures) in
     asks (z .place) (b .3)
 
 with-requires-2 : tie.Need-with-requires-2 Inv-loop μ-loop Inv-loop2 μ-loop2
@@ -171,12 +172,12 @@ loop-again c =
     let a = u .args in
     let v = now (a .values) in
     let all = heardOf (signedBy false (a .m)) (a .n) (a .start) v in
-    let h = c .before .hear-next5 in
+    let h = c .before .hear-sent5 in
     let last = c .before .before .before .before .before .before .before .if1 .last in
     let b = there (l .i) last (a .n) (c .before .before .before .before .before .loop-test .taken) (l .inv .2) in
-    let x = hears (l .inv .0) (b .0) (c .before .before .before .before .hear-next2 .ensures) in
-    let y = hears (x .place) (b .1) (c .before .before .before .hear-next3 .ensures) in
-    let z = hears (y .place) (b .2) (c .before .before .hear-next4 .ensures) in
+    let x = hears (l .inv .0) (b .0) (c .before .before .before .before .hear-sent2 .ensures) in
+    let y = hears (x .place) (b .1) (c .before .before .before .hear-sent3 .ensures) in
+    let z = hears (y .place) (b .2) (c .before .before .hear-sent4 .ensures) in
     let t = hears (z .place) (b .3) (h .ensures) in
     let r = c .with2 .ensures in
     let da = deal-a (l .inv .1) (x .bits) (x .voice) (l .inv .1 .some) (r .0) in
@@ -195,8 +196,8 @@ loop2-holds c =
     let l = c .before .before .loop in
     (l .inv .0, rw (c .whole .ensures) (l .inv .1 .whole))
 
-hear-next-requires-6 : tie.Need-hear-next-requires-6 Inv-loop μ-loop Inv-loop2 μ-loop2
-hear-next-requires-6 c κs =
+hear-sent-requires-6 : tie.Need-hear-sent-requires-6 Inv-loop μ-loop Inv-loop2 μ-loop2
+hear-sent-requires-6 c κs =
     let p = c .before .loop2 .inv .0 in
     asks p (omega arith)
 
@@ -212,7 +213,7 @@ loop2-less c = omega arith
 loop2-again : tie.Need-loop2-again Inv-loop μ-loop Inv-loop2 μ-loop2
 loop2-again c =
     let l = c .before .before .before .loop2 in
-    turn (l .inv) (omega arith) (c .before .hear-next6 .ensures) (c .with3 .ensures)
+    turn (l .inv) (omega arith) (c .before .hear-sent6 .ensures) (c .with3 .ensures)
 
 returns : tie.Need-returns Inv-loop μ-loop Inv-loop2 μ-loop2
 returns c = done (c .before .loop2 .inv) (omega arith)
@@ -227,23 +228,23 @@ link-copies-spec =
     μ-loop2
     mul-p
     mul-q
-    hear-next-requires
+    hear-sent-requires
     new-requires
     with-requires
     new-requires-2
     sub-last
     loop-holds
-    hear-next-requires-2
-    hear-next-requires-3
-    hear-next-requires-4
-    hear-next-requires-5
+    hear-sent-requires-2
+    hear-sent-requires-3
+    hear-sent-requires-4
+    hear-sent-requires-5
     with-requires-2
     add-i
     loop-less
     loop-again
     whole-requires
     loop2-holds
-    hear-next-requires-6
+    hear-sent-requires-6
     with-requires-3
     add-i-2
     loop2-less

@@ -1,18 +1,16 @@
 use denote.Ref.{now}
 use mathlib.Core.Path.{_≡_, refl, sym, ap, ap₂, _∙_}
-use mathlib.Core.Bool.{Bool, true, false}
+use mathlib.Core.Bool.{true, false}
 use Prim.Native.Nat.{ℕ, suc, _+_, _*_, _-_, _≤_, _<_}
 use native.Mathlib.Nat.{suc-mul}
 use native.Mathlib.Omega.{arith}
 use borrow.Author.Needs.{needs}
-use lib.Dec.{T}
 use lib.ListN.{length, getD}
-use lib.Ieee.{nan, binary32, fits}
-use lib.Ieee.Fits.{add-fits}
-use Rattle.pattern.specs.Pattern.{grown, copiesAt, after}
-use Rattle.pattern.proofs.CountLaws.{again-more, grown-yes, grown-no}
+use lib.Ieee.{nan}
+use Rattle.pattern.specs.Pattern.{grown, copiesAt}
+use Rattle.pattern.proofs.CountLaws.{grown-yes, grown-no}
 use Rattle.joining.specs.declared.Heard.the-variants.{Joined}
-use Rattle.joining.specs.Joining.{valueOf}
+use Rattle.joining.proofs.PlaceLaws.{once, more}
 use Rattle.joining.proofs.JoinLaws.{summed, sum-turn, sum-end, join-none, join-one, join-many}
 use Rattle.joining.proofs.walking.hear_next.Statement.{statement}
 use Rattle.joining.proofs.walking.hear_next.Tie as tie
@@ -24,22 +22,9 @@ Inv-loop values k less p q start sum₀ i₀ e₀ sum i e =
     (k < i) × (e ≤ q + p) × (0 < e) × (end ≤ length values) × (end ≡ i + grown false p q e)
     × (start + grown false p q start * p ≡ e + grown false p q e * p)
     × (summed values sum i end ≡ summed values (getD values k nan) (k + 1) end)
-    × T (fits binary32 sum)
 
 abbrev μ-loop : tie.MeasureT-loop
 μ-loop values k less p q start sum₀ i₀ e₀ sum i e = q + 1 - e
-
--- e does not grow: the bit is sent once
-once : (less : Bool) (p q e : ℕ) → q < e → (copiesAt less p q e ≡ 1) × (after less p q e ≡ e - q)
-once less p q e h = let g = ap (λ (n : ℕ). n * p) (grown-no less p q e h) in (go less, omega arith)
-  where
-    go : (less : Bool) → copiesAt less p q e ≡ 1
-    go true = omega (arith, grown-no true p q e h)
-    go false = omega (arith, grown-no false p q e h)
-
-more : (p q e : ℕ) → 0 < p → 0 < e → e ≤ q → grown false p q e ≡ suc (grown false p q (e + p))
-unfolding grown
-more p q e h k l = again-more p q e h k l
 
 mul-t11 : tie.Need-mul-t11 Inv-loop μ-loop
 mul-t11 c = search needs
@@ -56,11 +41,10 @@ sub-t16 : tie.Need-sub-t16 Inv-loop μ-loop
 sub-t16 c = omega arith
 
 returns : tie.Need-returns Inv-loop μ-loop
-unfolding valueOf
 returns c =
     let a = c .before .before .args in
     let o = once (a .less) (a .p) (a .q) (a .start) (omega arith) in
-    (sym (join-one (now (a .values)) (a .k) (copiesAt (a .less) (a .p) (a .q) (a .start)) (o .0) (omega arith)), omega arith, sym (o .1), c .shared-slice-known .given (a .k))
+    (sym (join-one (now (a .values)) (a .k) (copiesAt (a .less) (a .p) (a .q) (a .start)) (o .0) (omega arith)), omega arith, sym (o .1))
 
 add-t18 : tie.Need-add-t18 Inv-loop μ-loop
 add-t18 c = omega arith
@@ -69,12 +53,11 @@ sub-t19 : tie.Need-sub-t19 Inv-loop μ-loop
 sub-t19 c = omega (arith, c .before .before .pre .0 .most (c .if2 .taken))
 
 returns-2 : tie.Need-returns-2 Inv-loop μ-loop
-unfolding fits valueOf
 returns-2 c =
     let a = c .before .before .args in
     let g = grown-yes (a .p) (a .q) (a .start) (omega arith) in
     let n = ap (λ (n : ℕ). n * a .p) g in
-    rw (c .if2 .taken) (sym (join-none (now (a .values)) (a .k) (1 - grown true (a .p) (a .q) (a .start)) (omega arith)), omega arith, omega arith, tt)
+    rw (c .if2 .taken) (sym (join-none (now (a .values)) (a .k) (1 - grown true (a .p) (a .q) (a .start)) (omega arith)), omega arith, omega arith)
 
 mul-sum : tie.Need-mul-sum Inv-loop μ-loop
 mul-sum c = search needs
@@ -88,7 +71,7 @@ add-i c = omega arith
 loop-holds : tie.Need-loop-holds Inv-loop μ-loop
 loop-holds c =
     let h = rw (c .before .if2 .left) at (c .before .before .before .pre .3) in
-    (omega arith, omega arith, omega arith, omega arith, omega arith, refl, refl, c .shared-slice-known2 .given (c .before .before .before .args .k))
+    (omega arith, omega arith, omega arith, omega arith, omega arith, refl, refl)
 
 mul-sum-2 : tie.Need-mul-sum-2 Inv-loop μ-loop
 mul-sum-2 c = search needs
@@ -123,7 +106,6 @@ loop-again c =
       omega arith,
       omega arith,
       sym (sum-turn (now (a .values)) (l .i) end (l .sum) (omega arith) (omega arith)) ∙ l .inv .6,
-      add-fits binary32 (l .sum) (getD (now (a .values)) (l .i) nan),
     )
 
 sub-t20 : tie.Need-sub-t20 Inv-loop μ-loop
@@ -133,7 +115,6 @@ sub-t28 : tie.Need-sub-t28 Inv-loop μ-loop
 sub-t28 c = omega arith
 
 returns-3 : tie.Need-returns-3 Inv-loop μ-loop
-unfolding valueOf
 returns-3 c =
     let l = c .before .loop in
     let a = c .before .before .before .before .before .args in
@@ -147,7 +128,6 @@ returns-3 c =
       ap₂ Joined (sym (sum-end v (l .i) (a .k + many) (l .sum) (omega arith)) ∙ l .inv .6) c′ ∙ sym (join-many v (a .k) many (omega arith) (omega arith)),
       omega arith,
       omega arith,
-      l .inv .7,
     )
 
 pub hear-next-spec : {M : Type 1} → statement M
