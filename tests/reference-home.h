@@ -134,12 +134,10 @@ uint32_t ref_finish(const uint8_t *sheet, size_t sheet_len, uint32_t trch, const
 {
     struct form form;
     *at = 0;
-    uint32_t number = open_sheet(sheet, sheet_len, &form);
+    const struct channel *c;
+    uint32_t number = open_channel(sheet, sheet_len, trch, &form, &c);
     if (number != 0)
         return number;
-    const struct channel *c = channel_of(&form, trch);
-    if (c == NULL)
-        return 10;
     if (joined_len != form.joined || coded_len != c->E)
         return 11;
     for (uint32_t i = 0; i < trch - 1; i++)

@@ -295,17 +295,26 @@ uint32_t ref_sizes(const uint8_t *sheet, size_t sheet_len, uint64_t *channels, u
     return 0;
 }
 
+/* The sheet opened, and its channel; 10 where there is no such one. */
+static uint32_t open_channel(const uint8_t *sheet, size_t sheet_len, uint32_t trch, struct form *form,
+                             const struct channel **c)
+{
+    uint32_t number = open_sheet(sheet, sheet_len, form);
+    if (number != 0)
+        return number;
+    *c = channel_of(form, trch);
+    return *c == NULL ? 10 : 0;
+}
+
 uint32_t ref_channel(const uint8_t *sheet, size_t sheet_len, uint32_t trch, uint64_t *f, uint64_t *e, uint64_t *n,
                      uint64_t *v)
 {
     struct form form;
     *f = *e = *n = *v = 0;
-    uint32_t number = open_sheet(sheet, sheet_len, &form);
+    const struct channel *c;
+    uint32_t number = open_channel(sheet, sheet_len, trch, &form, &c);
     if (number != 0)
         return number;
-    const struct channel *c = channel_of(&form, trch);
-    if (c == NULL)
-        return 10;
     *f = c->F;
     *e = c->E;
     *n = c->N;
@@ -318,12 +327,10 @@ uint32_t ref_part(const uint8_t *sheet, size_t sheet_len, uint32_t trch, uint64_
 {
     struct form form;
     *start = *length = 0;
-    uint32_t number = open_sheet(sheet, sheet_len, &form);
+    const struct channel *c;
+    uint32_t number = open_channel(sheet, sheet_len, trch, &form, &c);
     if (number != 0)
         return number;
-    const struct channel *c = channel_of(&form, trch);
-    if (c == NULL)
-        return 10;
     if (multiplexed_len != form.D)
         return 11;
     *start = c->Z - c->V;
