@@ -4,8 +4,7 @@ ghost use mathlib.Core.Bool.{_||_};
 ghost use Prim.Native.Nat.{ℕ, _+_, _*_, _≤_, _<_};
 ghost use lib.ListN.{getD};
 ghost use Rattle.sheet.specs.Counts.{mostChannels, mostSlots, mostCodes, mostCapacities, mostTti, longestSheet};
-ghost use Rattle.sheet.specs.Fields.{phchsOf};
-ghost use Rattle.sheet.specs.Sizes.{framesIn, segmentIn, encodedAll, equalisedAll, slotCapacity, bitsNeeded, bytesNeeded};
+ghost use Rattle.sheet.specs.Sizes.{framesIn, segmentIn, encodedAll, equalisedAll, bitsNeeded, bytesNeeded};
 ghost use Rattle.sheet.specs.Numbers.{slotLoad, wholeLoad};
 ghost use Rattle.sheet.specs.Range.{Ranged};
 use crate::Sheet;
@@ -129,16 +128,6 @@ pub fn whole_load<'a>(phchs: &'a [u16; SLOTS], caps: &'a [u16; CAPACITIES], n: u
         t += 1;
     }
     Load { empty, sum }
-}
-
-// The capacity of slot t.
-pub fn slot_capacity(fields: Sheet, t: usize) -> u64
-    requires { ⌜ (t < mostSlots) × (phchsOf fields t ≤ mostCodes) ⌝ }
-    ensures { λ r. ⌜ (r ≡ slotCapacity fields t) × (r ≤ 1048560) ⌝ }
-{
-    let n = count(fields.phchs[t]);
-    let one = slot_load(&fields.caps, CODES * t, n);
-    one.sum
 }
 
 // The bits that the fields need.
