@@ -2,7 +2,7 @@
 use mathlib.Core.Bool.{not}
 use mathlib.Core.List.{List, [], _∷_, _++_}
 use Prim.Native.Nat.{ℕ}
-use Rattle.counters.specs.Lines.{Line, line, firstOf, given}
+use Rattle.counters.specs.Lines.{line, firstOf, given}
 use Rattle.sheet.specs.Fields.{sheetOf}
 use Rattle.naming.specs.Name.{Name, nameOf, hasPlace}
 use Rattle.looking.specs.Looking.{frameLines}
@@ -11,24 +11,21 @@ pub record Naming : Type 0 where
   pub number : ℕ
   pub name : Name
 
-abbrev pub named : ℕ → Name → Naming
-named n name = record { number = n; name = name }
+abbrev pub naming : ℕ → Name → Naming
+naming n name = record { number = n; name = name }
 
 -- the same, the name by its numbers
 abbrev pub nameLeft : ℕ → ℕ → ℕ → ℕ → Naming
-nameLeft n channel bit copy = named n (record { channel = channel; bit = bit; copy = copy })
+nameLeft n channel bit copy = naming n (record { channel = channel; bit = bit; copy = copy })
 
 -- the zeros of a refusal
 abbrev pub noName : Name
 noName = record { channel = 0; bit = 0; copy = 0 }
 
 -- 1 to 9, then 10 where the slot, the PhCH or the place does not exist
-abbrev pub nameLines : List ℕ → ℕ → ℕ → ℕ → ℕ → List Line
-nameLines s frame slot phch place = frameLines s frame ++ line (not (hasPlace (sheetOf s) slot phch place)) 10 ∷ []
-
 abbrev pub nameNumber : List ℕ → ℕ → ℕ → ℕ → ℕ → ℕ
-nameNumber s frame slot phch place = firstOf (nameLines s frame slot phch place)
+nameNumber s frame slot phch place = firstOf (frameLines s frame ++ line (not (hasPlace (sheetOf s) slot phch place)) 10 ∷ [])
 
 abbrev pub nameAnswer : List ℕ → ℕ → ℕ → ℕ → ℕ → Naming
 nameAnswer s frame slot phch place =
-    named (nameNumber s frame slot phch place) (given (nameNumber s frame slot phch place) (nameOf (sheetOf s) frame slot phch place) noName)
+    naming (nameNumber s frame slot phch place) (given (nameNumber s frame slot phch place) (nameOf (sheetOf s) frame slot phch place) noName)

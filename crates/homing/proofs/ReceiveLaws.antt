@@ -5,8 +5,9 @@ use Prim.Native.Nat.{ℕ, zero, suc}
 use lib.Ieee.{Float, nan}
 use lib.Seq.{sets}
 use Rattle.sheet.specs.declared.Sheet.{Sheet}
+use Rattle.matching.specs.Shares.{channelPart}
 use Rattle.homing.specs.Gather.{gathered}
-use Rattle.homing.specs.Home.{heardIn, segmentHome, segmentStart, takenTo, takenBack, heardAt, linkIn, partOf}
+use Rattle.homing.specs.Home.{heardIn, segmentHome, segmentStart, takenTo, takenBack, heardAt, linkIn}
 use Rattle.homing.specs.Taking.{homeIn, hearIn, surveyIn, takenFrom}
 
 module _ (sh : Sheet) (number : ℕ) (frame : List Float) where
@@ -14,16 +15,16 @@ module _ (sh : Sheet) (number : ℕ) (frame : List Float) where
   unfolding takenFrom takenTo segmentHome heardIn homeIn
   taken-to zero old = refl
   taken-to (suc n) old =
-      ap (λ (l : List Float). sets l (segmentStart sh number n) (homeIn sh number n (partOf sh n (gathered nan sh frame)))) (taken-to n old)
+      ap (λ (l : List Float). sets l (segmentStart sh number n) (homeIn sh number n (channelPart sh n (gathered nan sh frame)))) (taken-to n old)
 
   pub taken-back : (old : List Float) → takenFrom sh number (gathered nan sh frame) (sh .channels) old ≡ takenBack sh number frame old
   unfolding takenBack
   taken-back old = taken-to (sh .channels) old
 
-  pub heard-at : (i m : ℕ) → hearIn sh number i m (partOf sh i (gathered nan sh frame)) ≡ heardAt sh number i m frame
+  pub heard-at : (i m : ℕ) → hearIn sh number i m (channelPart sh i (gathered nan sh frame)) ≡ heardAt sh number i m frame
   unfolding hearIn heardAt heardIn
   heard-at i m = refl
 
-  pub link-in : (i : ℕ) → surveyIn sh number i (partOf sh i (gathered nan sh frame)) ≡ linkIn sh number i frame
+  pub link-in : (i : ℕ) → surveyIn sh number i (channelPart sh i (gathered nan sh frame)) ≡ linkIn sh number i frame
   unfolding surveyIn linkIn heardIn
   link-in i = refl

@@ -5,11 +5,11 @@ use Prim.Native.Nat.{ℕ, _<_}
 use lib.Ieee.{Float}
 use Rattle.sheet.specs.Sizes.{sizeOf, equalisedAll}
 use Rattle.sheet.specs.declared.Sheet.{Sheet}
+use Rattle.matching.specs.Shares.{channelPart}
 use Rattle.joining.specs.Joining.{plusZero}
 use Rattle.joining.specs.declared.Heard.{Heard}
 use Rattle.joining.specs.declared.Heard.the-variants.{Nothing}
 use Rattle.joining.specs.declared.linking.Link.{Link}
-use Rattle.homing.specs.Home.{partOf}
 use Rattle.homing.specs.Taking.{hearIn, surveyIn, takenFrom}
 use Rattle.homing.specs.declared.receiving.Asked.{Asked}
 use Rattle.homing.specs.declared.receiving.Asked.the-variants.{All, Bit, Channel}
@@ -27,8 +27,8 @@ noLink = record { least = plusZero; greatest = plusZero; punctured = 0 }
 -- the answer, of multiplexed values ms, and what the buffer then holds
 unfoldable pub receptionOf : Sheet → ℕ → List Float → Asked → Reception
 receptionOf sh number ms All = record { heard = Nothing; link = noLink }
-receptionOf sh number ms (Bit i m) = record { heard = hearIn sh number i m (partOf sh i ms); link = noLink }
-receptionOf sh number ms (Channel i) = record { heard = Nothing; link = surveyIn sh number i (partOf sh i ms) }
+receptionOf sh number ms (Bit i m) = record { heard = hearIn sh number i m (channelPart sh i ms); link = noLink }
+receptionOf sh number ms (Channel i) = record { heard = Nothing; link = surveyIn sh number i (channelPart sh i ms) }
 
 unfoldable pub receivedInto : Sheet → ℕ → List Float → Asked → List Float → List Float
 receivedInto sh number ms All old = takenFrom sh number ms (sh .channels) old

@@ -4,9 +4,9 @@ ghost use Prim.Native.Nat.{_≤_, _<_};
 ghost use lib.Ieee.{nan};
 ghost use lib.ListN.{length};
 ghost use Rattle.sheet.specs.Sizes.{sizeOf, capacityAll};
+ghost use Rattle.matching.specs.Shares.{channelPart};
 ghost use Rattle.opening.specs.Opened.{Opens};
 ghost use Rattle.homing.specs.Gather.{gathered};
-ghost use Rattle.homing.specs.Home.{partOf};
 ghost use Rattle.homing.specs.Taking.{hearIn, surveyIn};
 ghost use Rattle.homing.specs.Receiving.{Askable, receptionOf, receivedInto, smallFrame, middleFrame, largeFrame};
 use crate::gathering::gather_values;
@@ -41,7 +41,7 @@ pub struct Reception {
 
 fn hear_part(values: &[f32], opened: Opened, number: FrameNumber, i: usize, m: usize) -> Heard
     requires { ⌜ Opens opened × (length (now values) ≡ capacityAll (opened .fields)) × (i < opened .fields .channels) × (m < sizeOf (opened .fields) i) ⌝ }
-    ensures { λ r. ⌜ r ≡ hearIn (opened .fields) (number .0) i m (partOf (opened .fields) i (now (values .entry))) ⌝ }
+    ensures { λ r. ⌜ r ≡ hearIn (opened .fields) (number .0) i m (channelPart (opened .fields) i (now (values .entry))) ⌝ }
 {
     let cuts = opened.cuts;
     let a = cuts[i] as usize;
@@ -51,7 +51,7 @@ fn hear_part(values: &[f32], opened: Opened, number: FrameNumber, i: usize, m: u
 
 fn survey_part(values: &[f32], opened: Opened, number: FrameNumber, i: usize) -> Link
     requires { ⌜ Opens opened × (length (now values) ≡ capacityAll (opened .fields)) × (i < opened .fields .channels) ⌝ }
-    ensures { λ r. ⌜ r ≡ surveyIn (opened .fields) (number .0) i (partOf (opened .fields) i (now (values .entry))) ⌝ }
+    ensures { λ r. ⌜ r ≡ surveyIn (opened .fields) (number .0) i (channelPart (opened .fields) i (now (values .entry))) ⌝ }
 {
     let cuts = opened.cuts;
     let a = cuts[i] as usize;

@@ -41,11 +41,11 @@ labelAt i m = record { channel = suc i; bit = suc m }
 unfoldable pub labels : Sheet → ℕ → List Label
 labels sh i = table (labelAt i) 0 (equalisedOf sh i)
 
-abbrev pub named : Label → ℕ → Name
-named l copy = record { channel = l .channel; bit = l .bit; copy = copy }
+abbrev pub copyNamed : Label → ℕ → Name
+copyNamed l copy = record { channel = l .channel; bit = l .bit; copy = copy }
 
 unfoldable pub labelFrame : Sheet → ℕ → List Name
-labelFrame sh frame = frameOf named sh frame (labels sh)
+labelFrame sh frame = frameOf copyNamed sh frame (labels sh)
 
 -- the index of a place in the frame: slot, then PhCH, then place
 unfoldable pub indexOf : Sheet → ℕ → ℕ → ℕ → ℕ
@@ -62,8 +62,8 @@ slotBitAt sh t p place = numberOf (capacityOf sh t) ones (phchsOf sh t) p (fille
 unfoldable pub readFrom : Sheet → ℕ → ℕ → ℕ
 readFrom sh t k =
     cond (eqb (sh .mode) 0)
-    (Second.sourceOf (capacityAll sh) (slotStart sh t + k))
-    (slotStart sh t + Second.sourceOf (slotCapacity sh t) k)
+    (Second.comesFrom (capacityAll sh) (slotStart sh t + k))
+    (slotStart sh t + Second.comesFrom (slotCapacity sh t) k)
 
 -- the index of the multiplexed frame that stands at a place
 unfoldable pub multiplexedAt : Sheet → ℕ → ℕ → ℕ → ℕ

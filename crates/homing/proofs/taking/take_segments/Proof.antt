@@ -11,7 +11,7 @@ use Rattle.opening.specs.declared.Opened.{Opened}
 use Rattle.opening.proofs.OpenLaws.{size-is, sizes-most, cut-rises}
 use Rattle.frame.proofs.SpreadLaws.{part-length}
 use Rattle.frame.proofs.SendLaws.{cut-share, cut-within}
-use Rattle.homing.specs.Home.{partOf, channelStart}
+use Rattle.homing.specs.Home.{channelStart}
 use Rattle.homing.specs.Taking.{homeIn, takenFrom}
 use Rattle.homing.proofs.TakeLaws.{taken-next, part-at}
 use borrow.Author.Needs.{needs}
