@@ -1,5 +1,5 @@
 -- Laws of asking for a name.
-use mathlib.Core.Path.{_≡_, sym, ap, _∙_}
+use mathlib.Core.Path.{_≡_, sym, ap, ap₂, _∙_}
 use mathlib.Core.Bool.{Bool, true, false, not}
 use mathlib.Core.List.{List, [], _∷_}
 use Prim.Native.Nat.{ℕ}
@@ -22,7 +22,7 @@ module _ (s : List ℕ) (frame : ℕ) (a : OpenAnswer) (b : Begun s (frameLines 
   number = nameNumber s frame slot phch place
 
   same : {m : ℕ} {n : Name} → m ≡ number → n ≡ given number found noName → naming m n ≡ nameAnswer s frame slot phch place
-  same p q = rw (p, q)
+  same p q = ap₂ naming p q
 
   refuses : {m : ℕ} → m ≡ number → (m ≡ 0 → ⊥) → naming m noName ≡ nameAnswer s frame slot phch place
   refuses p z = same p (sym (given-no number found noName (λ q. z (p ∙ q))))

@@ -1,6 +1,6 @@
 -- What asking for a channel's part of a multiplexed frame answers, and the part.
 use mathlib.Core.List.{List, [], _∷_, _++_}
-use Prim.Native.Nat.{ℕ, _-_}
+use Prim.Native.Nat.{ℕ, _+_, _-_, _*_}
 use lib.ListN.{length}
 use Rattle.counters.specs.Lines.{line, firstOf, given}
 use Rattle.sheet.specs.Fields.{sheetOf}
@@ -31,3 +31,7 @@ partAnswer s k n = given (partNumber s k n) (partIn (sheetOf s) (k - 1)) (noPart
 -- the part of a multiplexed frame of anything: empty where refused
 abbrev pub partOf : {A : Type 0} → List ℕ → ℕ → List A → List A
 partOf s k vs = given (partNumber s k (length vs)) (channelPart (sheetOf s) (k - 1) vs) []
+
+-- where it lies, as a block of memory and an offset in bytes: in the caller's own frame of n values, each of `size` bytes, `start` values on
+abbrev pub partAt : ℕ → List ℕ → ℕ → ℕ → ℕ × ℕ → ℕ × ℕ
+partAt size s k n frame = (frame .0, partAnswer s k n .start * size + frame .1)

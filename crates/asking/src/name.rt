@@ -38,7 +38,7 @@ pub fn name(bytes: &[u8], frame: FrameNumber, slot: u32, phch: PhchNumber, place
     if number != 0 {
         return no_name(number);
     }
-    if frame.0 > LAST_FRAME {
+    if frame.is_over(LAST_FRAME) {
         return no_name(9);
     }
     if exists_lent(

@@ -1,13 +1,17 @@
 -- What was asked of the gathered values is what the definitions of coming home say of the frame.
 use mathlib.Core.Path.{_≡_, refl, ap}
 use mathlib.Core.List.{List}
-use Prim.Native.Nat.{ℕ, zero, suc}
+use Prim.Native.Nat.{ℕ, zero, suc, _<_}
 use lib.Ieee.{Float, nan}
 use lib.Seq.{sets}
+use Rattle.sheet.specs.Sizes.{sizeOf}
 use Rattle.sheet.specs.declared.Sheet.{Sheet}
 use Rattle.matching.specs.Shares.{channelPart}
+use Rattle.joining.specs.declared.Heard.{Heard}
+use Rattle.joining.specs.declared.linking.Link.{Link}
 use Rattle.homing.specs.Gather.{gathered}
 use Rattle.homing.specs.Home.{heardIn, segmentHome, segmentStart, takenTo, takenBack, heardAt, linkIn}
+use Rattle.homing.specs.declared.receiving.Reception.{Reception}
 use Rattle.homing.specs.Taking.{homeIn, hearIn, surveyIn, takenFrom}
 
 module _ (sh : Sheet) (number : ℕ) (frame : List Float) where
@@ -28,3 +32,10 @@ module _ (sh : Sheet) (number : ℕ) (frame : List Float) where
   pub link-in : (i : ℕ) → surveyIn sh number i (channelPart sh i (gathered nan sh frame)) ≡ linkIn sh number i frame
   unfolding surveyIn linkIn heardIn
   link-in i = refl
+
+pub received-made : {h g : Heard} {l k : Link} → h ≡ g → l ≡ k → _≡_ {A = Reception} (record { heard = h; link = l }) (record { heard = g; link = k })
+received-made p q = rw (p, q)
+
+-- a channel and its bit, by their indices
+pub size-at : (sh : Sheet) {i j m n : ℕ} → i ≡ j → m ≡ n → j < sh .channels → n < sizeOf sh j → (i < sh .channels) × (m < sizeOf sh i)
+size-at sh p q a b = rw (p, q) (a, b)

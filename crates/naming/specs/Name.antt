@@ -4,10 +4,11 @@ use mathlib.Core.Path.{_≡_}
 use mathlib.Core.Bool.{Bool, cond, _&&_}
 use mathlib.Core.List.{List}
 use Prim.Native.Nat.{ℕ, suc, _+_, _*_, _-_, _%_, _≤_, _<_}
-use lib.Dec.{eqb, ltb, leb}
+use lib.Dec.{eqb, ltb}
 use lib.ListN.{getD}
 use Rattle.laws.specs.Sums.{sumTo}
 use Rattle.laws.specs.Tables.{table}
+use Rattle.counters.specs.Counting.{among}
 use Rattle.sheet.specs.Fields.{ttiOf, encodedOf, phchsOf, capacityOf}
 use Rattle.sheet.specs.Sizes.{framesOf, sizeOf, equalisedOf, slotCapacity, capacityAll}
 use Rattle.sheet.specs.declared.Sheet.{Sheet}
@@ -100,9 +101,6 @@ pub record Exists (sh : Sheet) (slot phch place : ℕ) : Type 0 where
   pub place-to : place ≤ capacityOf sh (slot - 1) (phch - 1)
 
 -- the same as a test: each of the three is one of 1 to as many as there are
-abbrev pub among : ℕ → ℕ → Bool
-among k n = ltb 0 k && leb k n
-
 unfoldable pub hasPlace : Sheet → ℕ → ℕ → ℕ → Bool
 hasPlace sh slot phch place =
     among slot (sh .slots) && (among phch (phchsOf sh (slot - 1)) && among place (capacityOf sh (slot - 1) (phch - 1)))

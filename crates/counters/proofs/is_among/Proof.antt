@@ -1,6 +1,6 @@
-use Rattle.naming.proofs.ExistLaws.{among-none, among-some}
-use Rattle.naming.proofs.existing.is_among.Statement.{statement}
-use Rattle.naming.proofs.existing.is_among.Tie as tie
+use Rattle.counters.proofs.CountLaws.{among-none, among-some}
+use Rattle.counters.proofs.is_among.Statement.{statement}
+use Rattle.counters.proofs.is_among.Tie as tie
 
 returns : tie.Need-returns
 returns c = let a = c .before .args in among-none (a .k) (a .n) (c .if1 .taken)
