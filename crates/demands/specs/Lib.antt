@@ -1,6 +1,7 @@
-pub mod Calls
 pub mod Determined
+pub mod Demanded
 pub mod Exactly
+pub mod Answers
 pub mod Table
-pub mod Writes
+pub mod Calls
 pub mod Words
