@@ -12,30 +12,13 @@ use lib.ListN.{length, getD}
 use Rattle.laws.specs.FirstFail.{firstFail}
 use Rattle.laws.proofs.TestLaws.{split}
 use Rattle.counters.specs.Lines.{Line, line, firstOf, given}
-use Rattle.counters.proofs.LineLaws.{clear-of, append-clear, first-append, given-yes, given-no}
+use Rattle.counters.proofs.LineLaws.{clear-of, append-clear, first-append, given-yes, given-no, given-read}
 use Rattle.looking.specs.Looking.{lookLines, indexed}
 use Rattle.looking.proofs.LookLaws.{Early, early-numbered, early-below}
 use Rattle.demands.specs.Exactly.{Saying}
 use Rattle.demands.specs.Answers.{Answers, Points}
 use Rattle.demands.proofs.ExactLaws.{Means, apart, exactly}
-use Rattle.demands.proofs.TableLaws.{bad-in, good-till}
-
--- ---- what is given
-
-module _ {X Y : Type 0} (f : X → Y) (x y : X) where
-  cond-read : (b : Bool) → f (cond b x y) ≡ cond b (f x) (f y)
-  cond-read true = refl
-  cond-read false = refl
-
-  pub given-read : (n : ℕ) → f (given n x y) ≡ given n (f x) (f y)
-  given-read n = cond-read (eqb n 0)
-
-pub given-pair : {X Y : Type 0} (n : ℕ) (a b : X) (c d : Y) → _≡_ {A = X × Y} (given n a b, given n c d) (given n (a, c) (b, d))
-given-pair {X = X} {Y = Y} n a b c d = by (eqb n 0)
-  where
-    by : (t : Bool) → _≡_ {A = X × Y} (cond t a b, cond t c d) (cond t (a, c) (b, d))
-    by true = refl
-    by false = refl
+use Rattle.demands.proofs.TestMeans.{bad-in, good-till}
 
 -- ---- the number, and what is left beside it
 

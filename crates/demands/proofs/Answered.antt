@@ -79,4 +79,3 @@ link κs i r v met = met
 pub umv-link : Always Rattle.ummervia.proofs.exports_home.umv_link.ended Rattle.ummervia.proofs.exports_home.umv_link.Reads.Learnt
     (λ κs (bytes, (number, (frame, (trch, _)))) r (_, (_, (_, (_, (at, (least, (greatest, (punctured, _)))))))). linkMade r at least greatest punctured ≡ linkAnswer (now bytes) number (now frame) trch)
 umv-link κs i r v met = met
-

@@ -12,7 +12,7 @@ use lib.ListN.{length, take, drop}
 use Rattle.laws.specs.FirstFail.{firstFail}
 use Rattle.counters.specs.Lines.{Line, line, firstOf, given, answerOf}
 use Rattle.counters.specs.declared.Answer.{Answer}
-use Rattle.counters.proofs.LineLaws.{given-yes, given-no}
+use Rattle.counters.proofs.LineLaws.{given-yes, given-no, given-read, given-pair}
 use Rattle.sheet.specs.Fields.{sheetOf, blank, encodedOf}
 use Rattle.sheet.specs.Sizes.{encodedAll, equalisedAll, capacityAll, bytesNeeded}
 use Rattle.sheet.specs.Numbers.{readNumber, readAnswer}
@@ -52,8 +52,9 @@ use Rattle.demands.specs.Answers.{Answers, Points}
 use Rattle.demands.specs.Table.{MissingBit, BadByte, BadSoft, listenSays}
 use Rattle.demands.specs.Calls.{SheetReadCall, SheetLengthCall, SheetWriteCall, UmvSheetReadCall, OfRow, UmvSheetLengthCall, UmvSheetWriteCall, SizesCall, ChannelCall, NameCall, PartCall, PartOfCall, BuildCall, MultiplexCall, SpreadCall, GatherCall, TakeBackCall, FinishCall, HeardCall, UmvHeardCall, LinkCall}
 use Rattle.demands.proofs.ExactLaws.{Means, apart}
-use Rattle.demands.proofs.TableLaws.{bad-byte, bad-soft, sheet-means, field-lines, write-means, read-means, channel-lines, part-means, name-means, finish-means, build-means, moved-means, take-means, heard-means, link-means}
-use Rattle.demands.proofs.AnswerLaws.{given-read, given-pair, answers, answers-in, points, points-none}
+use Rattle.demands.proofs.TestMeans.{bad-byte, bad-soft}
+use Rattle.demands.proofs.TableLaws.{sheet-means, field-lines, write-means, read-means, channel-lines, part-means, name-means, finish-means, build-means, moved-means, take-means, heard-means, link-means}
+use Rattle.demands.proofs.AnswerLaws.{answers, answers-in, points, points-none}
 
 -- ---- calls that write into a buffer
 
