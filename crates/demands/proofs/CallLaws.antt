@@ -1,5 +1,5 @@
 -- What each call's contract says that it leaves is what document 01 says of the call. One law serves the call in Rattle and in C.
-use mathlib.Core.Path.{_≡_, refl, sym, ap, ap₂, _∙_}
+use mathlib.Core.Path.{_≡_, refl, sym, ap, _∙_}
 use mathlib.Core.Logic.{_↔_, _≢_}
 use mathlib.Core.Bool.{Bool, true, false, not, cond}
 use mathlib.Core.List.{List, [], _∷_, _++_}
@@ -10,7 +10,7 @@ use lib.Dec.{eqb}
 use lib.Ieee.{Float, nan}
 use lib.ListN.{length, take, drop}
 use Rattle.laws.specs.FirstFail.{firstFail}
-use Rattle.counters.specs.Lines.{Line, line, firstOf, given, answerOf}
+use Rattle.counters.specs.Lines.{Line, line, firstOf, answerOf}
 use Rattle.counters.specs.declared.Answer.{Answer}
 use Rattle.counters.proofs.LineLaws.{given-yes, given-no, given-read, given-pair}
 use Rattle.sheet.specs.Fields.{sheetOf, blank, encodedOf}
@@ -18,7 +18,6 @@ use Rattle.sheet.specs.Sizes.{encodedAll, equalisedAll, capacityAll, bytesNeede
 use Rattle.sheet.specs.Numbers.{readNumber, readAnswer}
 use Rattle.sheet.specs.declared.Sheet.{Sheet}
 use Rattle.sheet.specs.declared.SheetAnswer.{SheetAnswer}
-use Rattle.matching.specs.Shares.{cutOf, shareOf}
 use Rattle.writing.specs.Numbers.{fieldLines, writeLines}
 use Rattle.writing.specs.Written.{bytesOf, lengthAnswer}
 use Rattle.frame.specs.Frame.{spread, multiplexedBits, bitFrame}
@@ -35,22 +34,22 @@ use Rattle.looking.specs.Outcome.{Outcome, wrote}
 use Rattle.looking.specs.Looking.{lookLines, looked, frameLines, noTrch}
 use Rattle.looking.proofs.LookLaws.{Early, early-read, early-frame, early-more}
 use Rattle.sheets.specs.Flat.{flatOf, sheetFrom}
-use Rattle.sheets.specs.Sheets.{readIntoLines, readInto, writeInto, lengthFrom, writeFrom}
+use Rattle.sheets.specs.Sheets.{readInto, writeInto, lengthFrom, writeFrom}
 use Rattle.asking.specs.Asking.{sizesAnswer, sizesIn, noSizes, channelAnswer, channelIn, noChannel, channelNumber}
 use Rattle.asking.specs.Part.{partNumber, partAnswer, partIn, noPart, partOf}
-use Rattle.asking.specs.Naming.{Naming, nameAnswer, nameNumber, noName}
+use Rattle.asking.specs.Naming.{Naming, nameAnswer, noName}
 use Rattle.asking.specs.declared.SizesAnswer.{SizesAnswer}
 use Rattle.asking.specs.declared.ChannelAnswer.{ChannelAnswer}
 use Rattle.asking.specs.declared.part.PartAnswer.{PartAnswer}
 use Rattle.sending.specs.Building.{buildInto, multiplexInto, spreadInto}
-use Rattle.receiving.specs.Receiving.{gatherInto, takeInto, finishLines, finishInto}
+use Rattle.receiving.specs.Receiving.{gatherInto, takeInto, finishInto}
 use Rattle.receiving.specs.Listening.{noBit, heardLines, heardAnswer, linkAnswer, Numbers, heardNumbers}
 use Rattle.receiving.specs.declared.listening.HeardAnswer.{HeardAnswer}
 use Rattle.receiving.specs.declared.listening.LinkAnswer.{LinkAnswer}
 use Rattle.demands.specs.Exactly.{Saying}
 use Rattle.demands.specs.Answers.{Answers, Points}
-use Rattle.demands.specs.Table.{MissingBit, BadByte, BadSoft, listenSays}
-use Rattle.demands.specs.Calls.{SheetReadCall, SheetLengthCall, SheetWriteCall, UmvSheetReadCall, OfRow, UmvSheetLengthCall, UmvSheetWriteCall, SizesCall, ChannelCall, NameCall, PartCall, PartOfCall, BuildCall, MultiplexCall, SpreadCall, GatherCall, TakeBackCall, FinishCall, HeardCall, UmvHeardCall, LinkCall}
+use Rattle.demands.specs.Table.{BadByte, BadSoft}
+use Rattle.demands.specs.Calls.{SheetReadCall, SheetLengthCall, SheetWriteCall, UmvSheetReadCall, UmvSheetLengthCall, UmvSheetWriteCall, SizesCall, ChannelCall, NameCall, PartCall, PartOfCall, BuildCall, MultiplexCall, SpreadCall, GatherCall, TakeBackCall, FinishCall, HeardCall, UmvHeardCall, LinkCall}
 use Rattle.demands.proofs.ExactLaws.{Means, apart}
 use Rattle.demands.proofs.TestMeans.{bad-byte, bad-soft}
 use Rattle.demands.proofs.TableLaws.{sheet-means, field-lines, write-means, read-means, channel-lines, part-means, name-means, finish-means, build-means, moved-means, take-means, heard-means, link-means}

@@ -1,6 +1,6 @@
 -- Each public call is promised: its contract, as the toolchain reads it out of the code, takes all inputs and determines the result and the last values
 -- of all that was lent for writing. Nothing of the library is named in a statement but the call, so that a contract that leaves out a part is refused here.
-use mathlib.Core.Path.{_≡_, refl, sym, ap, _∙_}
+use mathlib.Core.Path.{refl, sym, ap, _∙_}
 use denote.Ref.{now}
 use Rattle.asking.specs.Naming.{Naming}
 use Rattle.demands.specs.Determined.{Promised, TakesAll, DeterminedAs}

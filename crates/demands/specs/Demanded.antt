@@ -1,5 +1,4 @@
 -- Demand 1 of one call: its contract, as the toolchain reads it out of the code, takes all inputs, has one outcome, and says what document 01 says.
-use mathlib.Core.Path.{_≡_}
 use contract.Lifetimes.{Lfts}
 use denote.Triple.Entry.{Args, Res}
 use denote.Triple.Clauses.{Ended, Lasts}
