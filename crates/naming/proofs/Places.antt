@@ -6,6 +6,7 @@ use native.Mathlib.Omega.{arith}
 use lib.Dec.{eqb}
 use Rattle.laws.specs.Sums.{sumTo}
 use Rattle.laws.specs.Least.{first}
+use Rattle.laws.proofs.SumLaws.{sum-within}
 use Rattle.laws.proofs.LeastLaws.{first-passes}
 use Rattle.sheet.specs.Fields.{phchsOf, capacityOf}
 use Rattle.sheet.specs.Sizes.{slotCapacity, capacityAll}
@@ -16,7 +17,9 @@ use Rattle.mapping.specs.Mapping.{phchOf, rankOf, posOf, numberOf, ones}
 use Rattle.mapping.proofs.PlaceLaws.{pos-in, filled-pos}
 use Rattle.mapping.proofs.TurnLaws.{bit-goes}
 use Rattle.frame.specs.Frame.{slotStart}
+use Rattle.frame.proofs.FrameLaws.{slot-room}
 use Rattle.naming.specs.Name.{indexOf, slotBitAt, readFrom, multiplexedAt, Exists}
+use Rattle.naming.proofs.Slots.{slot-in, phch-in}
 
 -- the term of a sum into which a number falls
 record Falls (f : ℕ → ℕ) (n j : ℕ) : Type 0 where
@@ -140,3 +143,15 @@ index-onto sh x h =
       there = existing sh t p (suc (u - sumTo U p)) (s .inside) (z .inside) (omega arith) (z .below);
       index = rw (qt, qp) (omega (arith, s .from, z .from));
     }
+
+-- and every place stands at an index of the frame
+pub index-inside : (sh : Sheet) (slot phch place : ℕ) → Exists sh slot phch place → indexOf sh slot phch place < capacityAll sh
+unfolding indexOf
+index-inside sh slot phch place w =
+    omega (
+      arith,
+      slot-room sh (slot - 1) (slot-in sh slot phch place w),
+      sum-within (capacityOf sh (slot - 1)) (phch - 1) _ (phch-in sh slot phch place w),
+      w .place-from,
+      w .place-to,
+    )
