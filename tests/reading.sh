@@ -1,7 +1,7 @@
 #!/usr/bin/env bash
 # Holds docs/READING.md against the sources: its path must name every definition that the contracts of the public calls rest on, each
-# under its file, and no other; and its second list every definition that a theorem pins, with what only such definitions rest on. No two files
-# of specs/ may define one name.
+# under its file, and no other; its second list every definition that a theorem pins, with what only such definitions rest on; its third what
+# the theorems of the demands say besides. No two files of specs/ may define one name.
 #
 # The set is derived so. It begins with the calls: what crates/ummervia/src/lib.rt passes on (`pub use`), the extern "C" functions of
 # that crate, and list_sheet. What a call rests on is what the words of its head name, from `fn` to the body; what a definition rests
@@ -23,7 +23,7 @@ pins() {
     }' "$paper"
 }
 
-# Prints `path file name lines` or `pinned file name lines` for each thing; MISSING for a name that a file brings and nobody defines, a
+# Prints `path file name lines`, or `pinned ..` or `demands ..`, for each thing; MISSING for a name that a file brings and nobody defines, a
 # theorem that is not there, or a call with a `requires`.
 derive() {
     find crates \( -path '*/src/*.rt' -o -path '*/specs/*.antt' -o -path 'crates/*/proofs/*.antt' -not -name Proof.antt \) | sort | xargs awk -v "pins=$(pins)" '
@@ -77,10 +77,10 @@ derive() {
         if ($1 == "pub" && $3 == ":" || /^(pub )?record / || $1 == "abbrev") {
             for (i = 1; $i ~ /^(abbrev|pub|record)$/; i++) { }
             name = $i; item = FILENAME " " name; body[item] = ""; for (i in head) if (i + 0 < depth) body[item] = body[item] " " head[i]
-        } else if ($1 == "unfolding" || $1 == name && !($0 ~ / : /)) item = ""
+        } else if ($1 == "unfolding" || $1 == name && $2 != ":") item = ""
     }
     antt && /^module / { params = $0; item = ""; next }
-    antt && !law && (/^ *(abbrev|unfoldable) / || /^(pub )?record / || /^pub [^ ]+ :/) {
+    antt && !law && (/^ *(abbrev|unfoldable) / || /^ *pub record / || /^pub [^ ]+ :/) {
         for (i = 1; $i ~ /^(abbrev|unfoldable|pub|record)$/; i++) { }
         item = FILENAME " " $i; body[item] = params
     }
@@ -128,6 +128,9 @@ derive() {
         kind = "pinned"
         for (thing in pinned) { if (!(thing in reached)) print "MISSING a call that rests on", thing; delete reached[thing]; reach(thing) }
         follow()
+        kind = "demands"
+        for (thing in lines) if (thing ~ /^crates\/demands\/proofs\/Demand[1-3][.]antt /) reach(thing)
+        follow()
         for (k = 1; k <= last; k++) print which[queue[k]], queue[k], lines[queue[k]]
         for (thing in lines) if (thing ~ /\/specs\//) {
             split(thing, pair, " ")
@@ -137,12 +140,12 @@ derive() {
     }' | sort
 }
 
-# The lists of the paper, as `path file name` and `pinned file name`. On the path a heading of the fourth order is a file, and the first
+# The lists of the paper, as derive prints them. On the path and in the third list a heading of the fourth order is a file, and the first
 # cell of a row has names; in the second list the first two cells of a row have files, each before its names.
 told() {
-    awk '/^## / { on = $0 == "## The path" ? 1 : $0 == "## Pinned by theorems" ? 2 : 0 } /^#### / { file = $2 }
-    on == 1 && /^[|] `/ { split($0, cell, "|"); n = split(cell[2], name, "`"); for (i = 2; i <= n; i += 2) print "path", file, name[i] }
-    on == 2 && /^[|] crates/ {
+    awk '/^## / { on = $0 == "## The path" ? "path" : $0 == "## The demands besides" ? "demands" : $0 == "## Pinned by theorems" } /^#### / { file = $2 }
+    on ~ /^[a-z]/ && /^[|] `/ { split($0, cell, "|"); n = split(cell[2], name, "`"); for (i = 2; i <= n; i += 2) print on, file, name[i] }
+    on == 1 && /^[|] crates/ {
         split($0, cell, "|"); n = split(cell[2] " " cell[3], word, /[ `,;]+/)
         for (i = 1; i <= n; i++) if (word[i] ~ /^crates/) file = word[i]; else if (word[i] != "" && word[i] != "-") print "pinned", file, word[i]
     }' "$paper" | sort
@@ -152,7 +155,8 @@ derive >"$room/set"
 cut -d ' ' -f 1-3 "$room/set" >"$room/due"
 told >"$room/told"
 count=$(grep -c '^path ' "$room/due")
-echo "reading: $count things, $(awk '/^path/ { n += $4 } END { print n }' "$room/set") lines, $(grep -c '^pinned ' "$room/due") pinned, $(uniq -d "$room/told" | wc -l) named twice"
+echo "reading: $count things, $(awk '/^path/ { n += $4 } END { print n }' "$room/set") lines, $(grep -c '^path crates/demands/' "$room/due") of them of demand 1;" \
+    "$(grep -c '^pinned ' "$room/due") pinned, $(grep -c '^demands ' "$room/due") of demands 2 and 3 besides, $(uniq -d "$room/told" | wc -l) named twice"
 if grep MISSING "$room/set"; then exit 1; fi
 diff --label sources --label "$paper" -U 0 "$room/due" "$room/told"
 grep -q "$count things" "$paper" || { echo "reading: $paper says another number" && exit 1; }

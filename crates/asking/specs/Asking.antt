@@ -1,7 +1,7 @@
 -- What asking for a sheet's sizes and for one channel's numbers answers.
 use mathlib.Core.List.{List, [], _∷_, _++_}
 use Prim.Native.Nat.{ℕ, _-_}
-use Rattle.counters.specs.Lines.{line, firstOf, given}
+use Rattle.counters.specs.Lines.{Line, line, firstOf, given}
 use Rattle.sheet.specs.Fields.{sheetOf, encodedOf}
 use Rattle.sheet.specs.Sizes.{framesOf, sizeOf, encodedAll, equalisedAll, capacityAll}
 use Rattle.sheet.specs.Numbers.{readLines, readNumber}
@@ -25,8 +25,11 @@ noSizes number = sizesMade number 0 0 0 0 0
 abbrev pub sizesAnswer : List ℕ → SizesAnswer
 sizesAnswer s = given (readNumber s) (sizesIn (sheetOf s)) (noSizes (readNumber s))
 
+abbrev pub channelLines : List ℕ → ℕ → List Line
+channelLines s k = readLines s ++ line (noTrch (sheetOf s) k) 10 ∷ []
+
 abbrev pub channelNumber : List ℕ → ℕ → ℕ
-channelNumber s k = firstOf (readLines s ++ line (noTrch (sheetOf s) k) 10 ∷ [])
+channelNumber s k = firstOf (channelLines s k)
 
 -- channel: F, E, N, V of a channel, which is counted from 0 here; zeros where refused
 abbrev pub channelMade : ℕ → ℕ → ℕ → ℕ → ℕ → ChannelAnswer

@@ -2,7 +2,7 @@
 use mathlib.Core.List.{List, [], _∷_, _++_}
 use Prim.Native.Nat.{ℕ, _+_, _-_, _*_}
 use lib.ListN.{length}
-use Rattle.counters.specs.Lines.{line, firstOf, given}
+use Rattle.counters.specs.Lines.{Line, line, firstOf, given}
 use Rattle.sheet.specs.Fields.{sheetOf}
 use Rattle.sheet.specs.Sizes.{capacityAll}
 use Rattle.sheet.specs.Numbers.{readLines}
@@ -12,8 +12,11 @@ use Rattle.looking.specs.Looking.{noTrch, notLong}
 use Rattle.asking.specs.declared.part.PartAnswer.{PartAnswer}
 
 -- 1 to 8, then 10 where TrCH k does not exist, then 11 where the frame has not D values
+abbrev pub partLines : List ℕ → ℕ → ℕ → List Line
+partLines s k n = readLines s ++ line (noTrch (sheetOf s) k) 10 ∷ line (notLong n (capacityAll (sheetOf s))) 11 ∷ []
+
 abbrev pub partNumber : List ℕ → ℕ → ℕ → ℕ
-partNumber s k n = firstOf (readLines s ++ line (noTrch (sheetOf s) k) 10 ∷ line (notLong n (capacityAll (sheetOf s))) 11 ∷ [])
+partNumber s k n = firstOf (partLines s k n)
 
 abbrev pub partMade : ℕ → ℕ → ℕ → PartAnswer
 partMade number start long = record { number = number; start = start; length = long }

@@ -34,11 +34,15 @@ module _ (call : Ended) where
       (κs : Lfts (call .signature .lifetimes)) (inputs : Args (call .signature) κs) (x y : Res (call .signature) κs) (v w : Lasts call κs inputs)
       → tells κs inputs x (atExit call κs inputs v) → tells κs inputs y (atExit call κs inputs w) → (x ≡ y) × (v ≡ w)
 
-  -- every outcome that meets it is as is demanded
-  abbrev pub Always : TellsOf → ((κs : Lfts (call .signature .lifetimes)) (inputs : Args (call .signature) κs) → Res (call .signature) κs → Lasts call κs inputs → Type 0) → Type 0
-  Always tells demanded =
+  -- of the inputs, the result and those last values
+  abbrev pub SaidOf : Type 1
+  SaidOf = (κs : Lfts (call .signature .lifetimes)) (inputs : Args (call .signature) κs) → Res (call .signature) κs → Lasts call κs inputs → Type 0
+
+  -- every outcome that meets it is as is said
+  abbrev pub Always : TellsOf → SaidOf → Type 0
+  Always tells said =
       (κs : Lfts (call .signature .lifetimes)) (inputs : Args (call .signature) κs) (x : Res (call .signature) κs) (v : Lasts call κs inputs)
-      → tells κs inputs x (atExit call κs inputs v) → demanded κs inputs x v
+      → tells κs inputs x (atExit call κs inputs v) → said κs inputs x v
 
   pub record Promised (asks : AsksOf) (tells : TellsOf) : Type 0 where
     pub takes-all : TakesAll asks

@@ -6,11 +6,11 @@ use Rattle.sheet.specs.Numbers.{readAnswer}
 use Rattle.naming.specs.Name.{nameIn}
 use Rattle.looking.specs.Outcome.{outcome}
 use Rattle.asking.specs.Asking.{sizesMade, sizesAnswer, channelMade, channelAnswer}
-use Rattle.asking.specs.Naming.{named, nameLeft, nameAnswer}
+use Rattle.asking.specs.Naming.{naming, nameLeft, nameAnswer}
 use Rattle.sending.specs.Building.{buildInto}
 use Rattle.receiving.specs.Receiving.{takeInto, finishInto}
 use Rattle.receiving.specs.Listening.{heardAnswer, numbers, heardNumbers, linkMade, linkAnswer}
-use Rattle.demands.specs.Determined.{Always}
+use Rattle.counters.specs.Promised.{Always}
 
 pub sheet-read : Always Rattle.sheets.proofs.sheet_read.ended Rattle.sheets.proofs.sheet_read.Reads.Learnt
     (λ κs (bytes, _) r _. r ≡ readAnswer (now bytes))
@@ -33,7 +33,7 @@ pub umv-channel : Always Rattle.ummervia.proofs.exports.umv_channel.ended Rattl
 umv-channel κs i r v met = met
 
 pub name : Always Rattle.asking.proofs.name.name.ended Rattle.asking.proofs.name.name.Reads.Learnt
-    (λ κs (bytes, (frame, (slot, (phch, (place, _))))) r _. named (r .number) (nameIn (r .name)) ≡ nameAnswer (now bytes) (frame .0) slot (phch .0) place)
+    (λ κs (bytes, (frame, (slot, (phch, (place, _))))) r _. naming (r .number) (nameIn (r .name)) ≡ nameAnswer (now bytes) (frame .0) slot (phch .0) place)
 name κs i r v met = met
 
 pub umv-name : Always Rattle.ummervia.proofs.exports.umv_name.ended Rattle.ummervia.proofs.exports.umv_name.Reads.Learnt

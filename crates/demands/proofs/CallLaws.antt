@@ -36,7 +36,7 @@ use Rattle.looking.proofs.LookLaws.{Early, early-read, early-frame, early-more}
 use Rattle.sheets.specs.Flat.{flatOf, sheetFrom}
 use Rattle.sheets.specs.Sheets.{readInto, writeInto, lengthFrom, writeFrom}
 use Rattle.asking.specs.Asking.{sizesAnswer, sizesIn, noSizes, channelAnswer, channelIn, noChannel, channelNumber}
-use Rattle.asking.specs.Part.{partNumber, partAnswer, partIn, noPart, partOf}
+use Rattle.asking.specs.Part.{partNumber, partAnswer, partIn, noPart, partOf, partAt}
 use Rattle.asking.specs.Naming.{Naming, nameAnswer, noName}
 use Rattle.asking.specs.declared.SizesAnswer.{SizesAnswer}
 use Rattle.asking.specs.declared.ChannelAnswer.{ChannelAnswer}
@@ -151,8 +151,10 @@ part-law s k n a e =
     answers-in (part-means s k n) refl (λ (x : PartAnswer). x .number) (λ (x : PartAnswer). (x .start, x .length))
     (partIn (sheetOf s) (k - 1)) (noPart (partNumber s k n)) refl refl e
 
-pub part-of-law : {A : Type 0} (s : List ℕ) (k : ℕ) (values left : List A) → left ≡ partOf s k values → PartOfCall s k values left
-part-of-law {A = A} s k values left e =
+pub part-of-law : {A : Type 0} (width : ℕ) (s : List ℕ) (k : ℕ) (frame part : (ℕ × ℕ) × List A) → part .1 ≡ partOf s k (frame .1)
+    → part .0 ≡ partAt width s k (length (frame .1)) (frame .0) → PartOfCall width s k frame part
+part-of-law {A = A} width s k frame part e lies =
+    let values = frame .1 in
     let n = partNumber s k (length values) in
     let a = partAnswer s k (length values) in
     let made = partIn (sheetOf s) (k - 1) in
@@ -163,6 +165,7 @@ part-of-law {A = A} s k values left e =
       size = a .length;
       answered = part-law s k (length values) a refl;
       is = e ∙ sym (given-read cut made (noPart n) n);
+      lies = lies;
       empty = λ z. e ∙ given-no n (cut made) [] (λ q. z (ap (λ (x : PartAnswer). x .number) (given-yes n made (noPart n) q)));
     }
 

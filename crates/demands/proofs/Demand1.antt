@@ -15,20 +15,20 @@ use Rattle.looking.specs.Outcome.{outcome}
 use Rattle.sheets.specs.Sheets.{answerMade}
 use Rattle.asking.specs.Asking.{sizesMade, channelMade}
 use Rattle.asking.specs.Part.{partMade}
-use Rattle.asking.specs.Naming.{named, nameLeft}
+use Rattle.asking.specs.Naming.{naming, nameLeft}
 use Rattle.receiving.specs.Listening.{numbers, linkMade}
-use Rattle.demands.specs.Determined.{Asked, Told, Promised, Always}
-use Rattle.demands.specs.Demanded.{Said, Demanded, DemandedAs}
+use Rattle.counters.specs.Promised.{seen, AsksOf, TellsOf, SaidOf, Promised, Always}
+use Rattle.demands.specs.Demanded.{Demanded, DemandedAs}
 use Rattle.demands.specs.Calls.{SheetReadCall, SheetLengthCall, SheetWriteCall, UmvSheetReadCall, UmvSheetLengthCall, UmvSheetWriteCall, SizesCall, ChannelCall, NameCall, PartCall, PartOfCall, BuildCall, MultiplexCall, SpreadCall, GatherCall, TakeBackCall, FinishCall, HeardCall, UmvHeardCall, LinkCall}
 use Rattle.demands.proofs.CallLaws.{sheet-read-law, sheet-length-law, sheet-write-law, umv-sheet-read-law, umv-sheet-length-law, umv-sheet-write-law, sizes-law, channel-law, name-law, part-law, part-of-law, build-law, multiplex-law, spread-law, gather-law, take-back-law, finish-law, heard-law, umv-heard-law, link-law}
-use Rattle.demands.proofs.UniqueSheets as Sheets
-use Rattle.demands.proofs.UniqueAsking as Asking
-use Rattle.demands.proofs.UniqueSending as Sending
-use Rattle.demands.proofs.UniqueReceiving as Receiving
-use Rattle.demands.proofs.UniqueUmmervia as Ummervia
+use Rattle.sheets.proofs.Unique as Sheets
+use Rattle.asking.proofs.Unique as Asking
+use Rattle.sending.proofs.Unique as Sending
+use Rattle.receiving.proofs.Unique as Receiving
+use Rattle.ummervia.proofs.Unique as Ummervia
 
-demanded : {call : Ended} {asked : Asked call} {told : Told call} {said : Said call} → Promised call asked told → Always call told said
-    → Demanded call asked told said
+demanded : {call : Ended} {asks : AsksOf call} {tells : TellsOf call} {said : SaidOf call} → Promised call asks tells → Always call tells said
+    → Demanded call asks tells said
 demanded p a = record { takes-all = p .takes-all; one-answer = p .one-answer; as-said = a }
 
 -- ---- a sheet
@@ -77,7 +77,7 @@ umv-channel = demanded Ummervia.umv-channel (λ κs i r (_, (_, (f, (e, (n, (v, 
 
 pub name : Demanded Rattle.asking.proofs.name.name.ended Rattle.asking.proofs.name.name.Reads.Asked Rattle.asking.proofs.name.name.Reads.Learnt
     (λ κs (bytes, (frame, (slot, (phch, (place, _))))) r _. NameCall (now bytes) (frame .0) slot (phch .0) place (r .number) (nameIn (r .name)))
-name = demanded Asking.name (λ κs i r v met. name-law _ _ _ _ _ (named (r .number) (nameIn (r .name))) met)
+name = demanded Asking.name (λ κs i r v met. name-law _ _ _ _ _ (naming (r .number) (nameIn (r .name))) met)
 
 pub umv-name : Demanded Rattle.ummervia.proofs.exports.umv_name.ended Rattle.ummervia.proofs.exports.umv_name.Reads.Asked Rattle.ummervia.proofs.exports.umv_name.Reads.Learnt
     (λ κs (bytes, (frame, (slot, (phch, (place, _))))) r (_, (_, (_, (_, (_, (channel, (bit, (copy, _)))))))). NameCall (now bytes) frame slot phch place r (record { channel = channel; bit = bit; copy = copy }))
@@ -91,13 +91,13 @@ pub umv-part : Demanded Rattle.ummervia.proofs.exports.umv_part.ended Rattle.u
     (λ κs (bytes, (trch, (n, _))) r (_, (_, (_, (start, (size, _))))). PartCall (now bytes) trch n r (start, size))
 umv-part = demanded Ummervia.umv-part (λ κs i r (_, (_, (_, (start, (size, _))))) met. part-law _ _ _ (partMade r start size) met)
 
-pub part-bits : DemandedAs Rattle.asking.proofs.part.part_bits.ended (λ κs r. now r) Rattle.asking.proofs.part.part_bits.Reads.Asked Rattle.asking.proofs.part.part_bits.Reads.Learnt
-    (λ κs (bytes, (trch, (values, _))) r _. PartOfCall (now bytes) (trch .0) (now values) (now r))
-part-bits = record { takes-all = Asking.part-bits .0; one-answer = Asking.part-bits .1; as-said = λ κs i r v met. part-of-law _ _ _ (now r) met }
+pub part-bits : DemandedAs Rattle.asking.proofs.part.part_bits.ended (λ κs r. seen r) Rattle.asking.proofs.part.part_bits.Reads.Asked Rattle.asking.proofs.part.part_bits.Reads.Learnt
+    (λ κs (bytes, (trch, (values, _))) r _. PartOfCall 1 (now bytes) (trch .0) (seen values) (seen r))
+part-bits = record { takes-all = Asking.part-bits .0; one-answer = Asking.part-bits .1; as-said = λ κs i r v met. part-of-law 1 _ _ _ (seen r) (met .0) (met .1) }
 
-pub part-soft : DemandedAs Rattle.asking.proofs.part.part_soft.ended (λ κs r. now r) Rattle.asking.proofs.part.part_soft.Reads.Asked Rattle.asking.proofs.part.part_soft.Reads.Learnt
-    (λ κs (bytes, (trch, (values, _))) r _. PartOfCall (now bytes) (trch .0) (now values) (now r))
-part-soft = record { takes-all = Asking.part-soft .0; one-answer = Asking.part-soft .1; as-said = λ κs i r v met. part-of-law _ _ _ (now r) met }
+pub part-soft : DemandedAs Rattle.asking.proofs.part.part_soft.ended (λ κs r. seen r) Rattle.asking.proofs.part.part_soft.Reads.Asked Rattle.asking.proofs.part.part_soft.Reads.Learnt
+    (λ κs (bytes, (trch, (values, _))) r _. PartOfCall 4 (now bytes) (trch .0) (seen values) (seen r))
+part-soft = record { takes-all = Asking.part-soft .0; one-answer = Asking.part-soft .1; as-said = λ κs i r v met. part-of-law 4 _ _ _ (seen r) (met .0) (met .1) }
 
 -- ---- there
 

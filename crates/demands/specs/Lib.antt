@@ -1,4 +1,3 @@
-pub mod Determined
 pub mod Demanded
 pub mod Exactly
 pub mod Answers

@@ -10,7 +10,7 @@ use Rattle.laws.specs.Laid.{Laid}
 use Rattle.counters.specs.Lines.{given}
 use Rattle.sheet.specs.Fields.{sheetOf, encodedOf}
 use Rattle.sheet.specs.Sizes.{framesOf, sizeOf, capacityAll}
-use Rattle.sheet.specs.Numbers.{readNumber}
+use Rattle.sheet.specs.Numbers.{readAnswer}
 use Rattle.sheet.specs.declared.Sheet.{Sheet}
 use Rattle.matching.specs.Shares.{shareOf}
 use Rattle.listing.specs.Ascii.{ascii}
@@ -62,7 +62,7 @@ refusal n = followed [] (ascii "refused " ∷ decimalOf n ∷ ascii "\n" ∷ [])
 
 -- the listing of a sheet's bytes
 unfoldable pub listingOf : List ℕ → List ℕ
-listingOf s = given (readNumber s) (linesTo (sheetOf s) (sheetOf s .channels)) (refusal (readNumber s))
+listingOf s = given (readAnswer s .number) (linesTo (sheetOf s) (sheetOf s .channels)) (refusal (readAnswer s .number))
 
 -- a text in an array, zeros past it
 unfoldable pub textOf : List ℕ → Text

@@ -28,7 +28,7 @@ use Rattle.looking.specs.Looking.{noTrch, notLong}
 use Rattle.looking.specs.Outcome.{outcome}
 use Rattle.looking.proofs.LookLaws.{either-left, either-right, both-clear}
 use Rattle.looking.proofs.OutcomeLaws.{wrote-no, wrote-yes}
-use Rattle.receiving.specs.Receiving.{finishNumber, finishInto}
+use Rattle.receiving.specs.Receiving.{finishLines, finishInto}
 
 -- ---- the channel's part, which begins at a and has u values
 
@@ -65,7 +65,7 @@ module _ (s : List ℕ) (a : OpenAnswer) (o : a ≡ openAnswer s) (k : ℕ) (buf
       ∷ []
 
   abbrev number : ℕ
-  number = finishNumber s k (length buffer) (length old)
+  number = firstOf (finishLines s k (length buffer) (length old))
 
   refuses : {m : ℕ} → m ≡ number → (m ≡ 0 → ⊥) → outcome m 0 old ≡ finishInto s k buffer old
   refuses p z = wrote-no number (encodedOf (sheetOf s) (k - 1)) (finishedOf (sheetOf s) (k - 1) buffer) old p z

@@ -31,8 +31,11 @@ multiplexInto s frame contents old =
 abbrev pub sendInto : Bool → List ℕ → ℕ → List ℕ → List ℕ → Outcome ℕ
 sendInto whole s frame contents old = cond whole (buildInto s frame contents old) (multiplexInto s frame contents old)
 
--- spread: 1 to 8, then the multiplexed bits, of which D are needed, and D places; steps 8 and 9
+-- spread: 1 to 8, then the multiplexed bits, of which D are needed, and D places
+abbrev pub spreadLines : List ℕ → List ℕ → ℕ → List Line
+spreadLines s bits n = readLines s ++ lookLines isBit bits (capacityAll (sheetOf s)) n (capacityAll (sheetOf s))
+
+-- steps 8 and 9
 abbrev pub spreadInto : List ℕ → List ℕ → List ℕ → Outcome ℕ
 spreadInto s bits old =
-    let n = firstOf (readLines s ++ lookLines isBit bits (capacityAll (sheetOf s)) (length old) (capacityAll (sheetOf s))) in
-    looked n (firstBad bits) (capacityAll (sheetOf s)) (spread (sheetOf s) bits) old
+    looked (firstOf (spreadLines s bits (length old))) (firstBad bits) (capacityAll (sheetOf s)) (spread (sheetOf s) bits) old

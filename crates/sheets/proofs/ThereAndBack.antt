@@ -18,12 +18,12 @@ use Rattle.writing.proofs.WriteRead.{written-again, accepted-again}
 use Rattle.looking.specs.Outcome.{outcome}
 use Rattle.looking.proofs.OutcomeLaws.{wrote-yes}
 use Rattle.sheets.specs.Flat.{flatCount, flatOf, sheetFrom}
-use Rattle.sheets.specs.Sheets.{notFlat, readInto, writeInto, writeFromNumber, writeFrom}
+use Rattle.sheets.specs.Sheets.{notFlat, readInto, writeInto, writeFromLines, writeFrom}
 use Rattle.sheets.proofs.FlatLaws.{Shaped, flat-long, flat-back}
 use Rattle.sheets.proofs.SheetLaws.{read-laid, write-flat}
 
 -- what was written from the fields of a row is accepted, and read into a row it is those fields, with zeros past I, T and P
-pub written-read : (l : List ℕ) (n : ℕ) (old : List ℕ) → writeFromNumber l n ≡ 0 → length old ≡ flatCount
+pub written-read : (l : List ℕ) (n : ℕ) (old : List ℕ) → firstOf (writeFromLines l n) ≡ 0 → length old ≡ flatCount
     → outcome 0 flatCount (flatOf (trimmed (sheetFrom l))) ≡ readInto (bytesOf (sheetFrom l)) old
 written-read l n old h e =
     let z : writeNumber (sheetFrom l) n ≡ 0 = pass-zero (notFlat (length l)) 10 _ h .1 in

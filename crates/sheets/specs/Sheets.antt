@@ -3,7 +3,7 @@ use mathlib.Core.Bool.{Bool}
 use mathlib.Core.List.{List, [], _∷_, _++_}
 use Prim.Native.Nat.{ℕ}
 use lib.ListN.{length}
-use Rattle.counters.specs.Lines.{line, firstOf, answerOf}
+use Rattle.counters.specs.Lines.{Line, line, firstOf, answerOf}
 use Rattle.counters.specs.declared.Answer.{Answer}
 use Rattle.sheet.specs.Fields.{sheetOf}
 use Rattle.sheet.specs.Sizes.{bytesNeeded}
@@ -20,22 +20,28 @@ abbrev pub notFlat : ℕ → Bool
 notFlat n = notLong n flatCount
 
 -- umv_sheet_read: 1 to 8, then 11 where the fields' buffer has not 283 numbers
+abbrev pub readIntoLines : List ℕ → ℕ → List Line
+readIntoLines s n = readLines s ++ line (notFlat n) 11 ∷ []
+
 abbrev pub readInto : List ℕ → List ℕ → Outcome ℕ
-readInto s old = wrote (firstOf (readLines s ++ line (notFlat (length old)) 11 ∷ [])) flatCount (flatOf (sheetOf s)) old
+readInto s old = wrote (firstOf (readIntoLines s (length old))) flatCount (flatOf (sheetOf s)) old
 
 -- sheet_write, from a struct of fields into a buffer that was `old`
 abbrev pub writeInto : Sheet → List ℕ → Outcome ℕ
 writeInto sh old = wrote (writeNumber sh (length old)) (bytesNeeded sh) (bytesOf sh) old
 
 -- umv_sheet_length and umv_sheet_write, from a row of numbers: where there are not 283, there are no fields to ask anything else of
+abbrev pub lengthFromLines : List ℕ → List Line
+lengthFromLines l = line (notFlat (length l)) 11 ∷ fieldLines (sheetFrom l)
+
 abbrev pub answerMade : ℕ → ℕ → Answer
 answerMade number at = record { number = number; at = at }
 
 abbrev pub lengthFrom : List ℕ → Answer
-lengthFrom l = answerOf (firstOf (line (notFlat (length l)) 11 ∷ fieldLines (sheetFrom l))) (bytesNeeded (sheetFrom l))
+lengthFrom l = answerOf (firstOf (lengthFromLines l)) (bytesNeeded (sheetFrom l))
 
-abbrev pub writeFromNumber : List ℕ → ℕ → ℕ
-writeFromNumber l n = firstOf (line (notFlat (length l)) 11 ∷ writeLines (sheetFrom l) n)
+abbrev pub writeFromLines : List ℕ → ℕ → List Line
+writeFromLines l n = line (notFlat (length l)) 11 ∷ writeLines (sheetFrom l) n
 
 abbrev pub writeFrom : List ℕ → List ℕ → Outcome ℕ
-writeFrom l old = wrote (writeFromNumber l (length old)) (bytesNeeded (sheetFrom l)) (bytesOf (sheetFrom l)) old
+writeFrom l old = wrote (firstOf (writeFromLines l (length old))) (bytesNeeded (sheetFrom l)) (bytesOf (sheetFrom l)) old
