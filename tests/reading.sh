@@ -155,7 +155,7 @@ derive >"$room/set"
 cut -d ' ' -f 1-3 "$room/set" >"$room/due"
 told >"$room/told"
 count=$(grep -c '^path ' "$room/due")
-echo "reading: $count things, $(awk '/^path/ { n += $4 } END { print n }' "$room/set") lines, $(grep -c '^path crates/demands/' "$room/due") of them of demand 1;" \
+echo "reading: $count things, $(awk '/^path/ { n += $4 } END { print n }' "$room/set") lines, $(grep -Ec '^path crates/(demands/|counters/specs/Promised)' "$room/due") of them of demand 1;" \
     "$(grep -c '^pinned ' "$room/due") pinned, $(grep -c '^demands ' "$room/due") of demands 2 and 3 besides, $(uniq -d "$room/told" | wc -l) named twice"
 if grep MISSING "$room/set"; then exit 1; fi
 diff --label sources --label "$paper" -U 0 "$room/due" "$room/told"
