@@ -32,7 +32,7 @@ use Rattle.homing.specs.declared.receiving.Wanted.the-variants.{Bit, Channel}
 use Rattle.homing.proofs.ReceiveLaws.{heard-at, link-in}
 use Rattle.looking.specs.Looking.{frameLines, noTrch, lookLines, indexed, lookAnswer, Begun}
 use Rattle.looking.proofs.LookLaws.{trch-there, Early, early-numbered, early-below, early-more, early-frame, begun-fields, either-left}
-use Rattle.receiving.specs.Listening.{heardAnswer, numbers, heardNumbers, linkAnswer}
+use Rattle.receiving.specs.Listening.{noBit, heardAnswer, numbers, heardNumbers, linkAnswer}
 use Rattle.receiving.specs.Listened.{missing, listenLines, unheard, listenedMade, listenedOf}
 use Rattle.receiving.specs.declared.listening.HeardAnswer.{HeardAnswer}
 use Rattle.receiving.specs.declared.listening.LinkAnswer.{LinkAnswer}
@@ -58,18 +58,19 @@ module _ (sh : Sheet) {w : Wanted} {k : TrchNumber} where
   pub missing-channel : w ≡ Channel k → {t : Bool} → t ≡ noTrch sh (k .0) → t ≡ missing sh w
   missing-channel e t = t ∙ sym (ap (missing sh) e)
 
-found-bit : (sh : Sheet) (k : TrchNumber) (b : BitNumber) → noBitIn sh k b ≡ false → (0 < b .0) × (b .0 - 1 < sizeOf sh (k .0 - 1))
-found-bit sh k b h =
-    let z : b .0 ≡ 0 → ⊥ = eqb-false (b .0) 0 (or-left _ (ltb (sizeOf sh (k .0 - 1)) (b .0)) h) in
-    let l : b .0 ≤ sizeOf sh (k .0 - 1) = ltb-false (sizeOf sh (k .0 - 1)) (b .0) (or-right (eqb (b .0) 0) _ h) in
-    (omega arith, omega arith)
+-- a channel and a bit of its segment that exist
+pub bit-there : (sh : Sheet) (k b : ℕ) → noBit sh k b ≡ false → (0 < k) × (k - 1 < sh .channels) × (0 < b) × (b - 1 < sizeOf sh (k - 1))
+bit-there sh k b h =
+    let bad : Bool = eqb b 0 || ltb (sizeOf sh (k - 1)) b in
+    let t = trch-there sh k (or-left (noTrch sh k) bad h) in
+    let m : bad ≡ false = or-right (noTrch sh k) bad h in
+    let z : b ≡ 0 → ⊥ = eqb-false b 0 (or-left (eqb b 0) (ltb (sizeOf sh (k - 1)) b) m) in
+    let l : b ≤ sizeOf sh (k - 1) = ltb-false (sizeOf sh (k - 1)) b (or-right (eqb b 0) (ltb (sizeOf sh (k - 1)) b) m) in
+    (t .0, t .1, omega arith, omega arith)
 
 pub askable : (sh : Sheet) (w : Wanted) (n : ℕ) → missing sh w ≡ false → Askable sh (One w) n
 unfolding Askable Findable
-askable sh (Bit k b) n h =
-    let t = trch-there sh (k .0) (or-left _ (noBitIn sh k b) h) in
-    let f = found-bit sh k b (or-right (noTrch sh (k .0)) (noBitIn sh k b) h) in
-    (t .0, t .1, f .0, f .1)
+askable sh (Bit k b) n h = bit-there sh (k .0) (b .0) h
 askable sh (Channel k) n h = trch-there sh (k .0) h
 
 -- ---- the numbers
