@@ -16,7 +16,7 @@ use Rattle.writing.proofs.WriteRead.{written-again}
 use Rattle.opening.proofs.OpenLaws.{accepted-in}
 use Rattle.frame.specs.Frame.{spread}
 use Rattle.homing.specs.Gather.{gathered}
-use Rattle.homing.proofs.GatherLaws.{gathered-spread}
+use Rattle.homing.proofs.GatherLaws.{gathered-spread, spread-gathered}
 use Rattle.sheets.specs.Sheets.{writeInto}
 
 -- what was written is accepted, and read as the fields that it was written from, with zeros past I, T and P
@@ -28,7 +28,8 @@ written-read sh old z = ap readAnswer (given-yes (writeNumber sh (length old)) (
 pub read-written : (s : List ℕ) → ((i : ℕ) → getD s i 0 < 256) → readAnswer s .number ≡ 0 → bytesOf (readAnswer s .sheet) ≡ s
 read-written s byte z = ap bytesOf (given-yes (readNumber s) (sheetOf s) blank z) ∙ written-again s byte z
 
--- what was spread, of elements of any type, is gathered as it was
+-- what was spread, of elements of any type, is gathered as it was, and what was gathered is spread as it was
 pub gathered-back : {A : Type 0} (d : A) (s : List ℕ) (xs : List A) → readAnswer s .number ≡ 0 → length xs ≡ capacityAll (sheetOf s)
-    → gathered d (sheetOf s) (spread (sheetOf s) xs) ≡ xs
-gathered-back d s xs z full = gathered-spread d (sheetOf s) (accepted-in s z) xs full
+    → (gathered d (sheetOf s) (spread (sheetOf s) xs) ≡ xs) × (spread (sheetOf s) (gathered d (sheetOf s) xs) ≡ xs)
+gathered-back d s xs z full =
+    (gathered-spread d (sheetOf s) (accepted-in s z) xs full, spread-gathered d (sheetOf s) (accepted-in s z) xs full)

@@ -1,11 +1,11 @@
--- Step 6's way back over its own text: the shares of the bits are the values, one after the other, and the share of a bit is what the text sends
--- of it, copy 0, 1, .. in order. The two leave no other `shared`.
+-- Step 6's way back over its own text: the shares of the bits are the values, one after the other; the share of a bit is what the text sends of it, copy
+-- 0, 1, .. in order; and how many it has does not depend on what the values are. The three leave no other `shared`.
 use mathlib.Core.Path.{_≡_, sym, ap, ap₂, _∙_}
 use mathlib.Core.List.{List, [], _++_}
 use Prim.Native.Nat.{ℕ, zero, suc, _≤_, _<_}
 use native.Mathlib.Omega.{arith}
 use lib.IntN.{ℤ}
-use lib.ListN.{length, getD, take, drop}
+use lib.ListN.{length, getD, take, drop, length-take, length-drop}
 use lib.Seq.{take-add, take-all}
 use Rattle.laws.specs.Joined.{joined}
 use Rattle.laws.specs.Tables.{table}
@@ -38,3 +38,11 @@ own f d W e m xs z r l =
     let is =
     ap (λ (sent : List _). getD (shared d (length xs) e sent) m []) (matched-text f d (length xs) W e xs r) ∙ shared-matched f d e m xs z l in
     is ∙ ap (table (f (getD xs m z)) 0) (sym (ap length is ∙ table-length (f (getD xs m z)) 0 copies))
+
+-- as many values for a bit as of any others
+pub as-many : {A B : Type 0} (d : ℤ) (N W e m : ℕ) (vs : List A) (ws : List B) → Rates d N W e → m < N → length vs ≡ length ws
+    → length (getD (shared d N e vs) m []) ≡ length (getD (shared d N e ws) m [])
+as-many d N W e m vs ws r l q =
+    ap length (shared-at d N W e m vs r l)
+    ∙ simp (length-take, length-drop, q)
+    ∙ sym (ap length (shared-at d N W e m ws r l) ∙ simp (length-take, length-drop))
