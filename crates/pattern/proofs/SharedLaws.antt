@@ -2,7 +2,7 @@
 -- 0, 1, .. in order; and how many it has does not depend on what the values are. The three leave no other `shared`.
 use mathlib.Core.Path.{_≡_, sym, ap, ap₂, _∙_}
 use mathlib.Core.List.{List, [], _++_}
-use Prim.Native.Nat.{ℕ, zero, suc, _≤_, _<_}
+use Prim.Native.Nat.{ℕ, zero, suc, _-_, _≤_, _<_, min}
 use native.Mathlib.Omega.{arith}
 use lib.IntN.{ℤ}
 use lib.ListN.{length, getD, take, drop, length-take, length-drop}
@@ -43,6 +43,9 @@ own f d W e m xs z r l =
 pub as-many : {A B : Type 0} (d : ℤ) (N W e m : ℕ) (vs : List A) (ws : List B) → Rates d N W e → m < N → length vs ≡ length ws
     → length (getD (shared d N e vs) m []) ≡ length (getD (shared d N e ws) m [])
 as-many d N W e m vs ws r l q =
+    let c = copiesOf d N e m in
+    let b = sentBefore d N e m in
     ap length (shared-at d N W e m vs r l)
-    ∙ simp (length-take, length-drop, q)
-    ∙ sym (ap length (shared-at d N W e m ws r l) ∙ simp (length-take, length-drop))
+    ∙ length-take c (drop b vs)
+    ∙ ap (min c) (length-drop b vs ∙ ap (λ (n : ℕ). n - b) q ∙ sym (length-drop b ws))
+    ∙ sym (ap length (shared-at d N W e m ws r l) ∙ length-take c (drop b ws))
