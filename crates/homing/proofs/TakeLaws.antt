@@ -1,6 +1,6 @@
 -- Laws of taking a channel's segment out of its values.
 use mathlib.Core.Path.{_≡_, refl, sym, ap, ap₂, _∙_}
-use mathlib.Core.Bool.{Bool, false}
+use mathlib.Core.Bool.{false}
 use mathlib.Core.List.{List, [], _∷_, _++_, map, append-assoc}
 use Prim.Native.Nat.{ℕ, zero, suc, _+_, _*_, _-_, _%_, _≤_, _<_}
 use native.Mathlib.Nat.{suc-mul, mul-le-mul-right}
@@ -11,13 +11,11 @@ use lib.Ieee.{Float}
 use borrow.Rule.Slice.PartMut.{putMid, post-is}
 use lib.ListN.{length, getD, take, drop}
 use lib.Seq.{sets, sets-eq}
-use Rattle.sheet.specs.Counts.{mostBits}
 use Rattle.sheet.specs.Sizes.{framesOf, sizeOf}
-use Rattle.sheet.specs.Range.{Accepted}
 use Rattle.sheet.specs.declared.Sheet.{Sheet}
 use Rattle.matching.specs.Signed.{signedBy}
-use Rattle.matching.specs.Shares.{shareOf, changeOf, channelPart}
-use Rattle.pattern.specs.Pattern.{again, grown, after, sharedFrom, shared, Segment}
+use Rattle.matching.specs.Shares.{changeOf, channelPart}
+use Rattle.pattern.specs.Pattern.{again, grown, after, sharedFrom, shared}
 use Rattle.matching.proofs.SignedLaws.{magnitude}
 use Rattle.frame.specs.Frame.{startAt}
 use Rattle.frame.specs.Walk.{Walks}

@@ -1,7 +1,6 @@
 -- Steps 9 and 8 undone: the values of a frame in the order of the multiplexed frame. Each place is read once; z is read nowhere.
 use mathlib.Core.Bool.{cond}
 use mathlib.Core.List.{List}
-use Prim.Native.Nat.{ℕ}
 use lib.Dec.{eqb}
 use Rattle.laws.specs.Joined.{joined}
 use Rattle.sheet.specs.declared.Sheet.{Sheet}

@@ -1,7 +1,6 @@
 -- S11: every value that document 01 marks P is what the definitions give.
 use mathlib.Core.Path.{_≡_, refl}
-use mathlib.Core.List.{List, map}
-use Prim.Native.Nat.{ℕ}
+use mathlib.Core.List.{map}
 use Rattle.laws.specs.Sums.{sumTo}
 use Rattle.laws.specs.Tables.{table}
 use Rattle.orders.specs.Orders.{orders, columnAt, rowOf, order}
