@@ -49,7 +49,9 @@ use Rattle.receiving.specs.declared.listening.LinkAnswer.{LinkAnswer}
 use Rattle.demands.specs.Exactly.{Saying}
 use Rattle.demands.specs.Answers.{Answers, Points}
 use Rattle.demands.specs.Table.{BadByte, BadSoft}
-use Rattle.demands.specs.Calls.{SheetReadCall, SheetLengthCall, SheetWriteCall, UmvSheetReadCall, UmvSheetLengthCall, UmvSheetWriteCall, SizesCall, ChannelCall, NameCall, PartCall, PartOfCall, BuildCall, MultiplexCall, SpreadCall, GatherCall, TakeBackCall, FinishCall, HeardCall, UmvHeardCall, LinkCall}
+use Rattle.listing.specs.Listing.{linesTo, refusal, listingOf, textOf}
+use Rattle.listing.specs.declared.Text.{Text}
+use Rattle.demands.specs.Calls.{SheetReadCall, SheetLengthCall, SheetWriteCall, UmvSheetReadCall, UmvSheetLengthCall, UmvSheetWriteCall, SizesCall, ChannelCall, NameCall, PartCall, PartOfCall, BuildCall, MultiplexCall, SpreadCall, GatherCall, TakeBackCall, FinishCall, HeardCall, UmvHeardCall, LinkCall, ListSheetCall}
 use Rattle.demands.proofs.ExactLaws.{Means, apart}
 use Rattle.demands.proofs.TestMeans.{bad-byte, bad-soft}
 use Rattle.demands.proofs.TableLaws.{sheet-means, field-lines, write-means, read-means, channel-lines, part-means, name-means, finish-means, build-means, moved-means, take-means, heard-means, link-means}
@@ -240,3 +242,12 @@ module _ (s : List ℕ) (number : ℕ) (frame : List Float) where
     points-none inRange nan BadSoft bad-soft (listened (noTrch (sheetOf s) k)) frame (capacityAll (sheetOf s)) 0 0 (ap (λ (x : LinkAnswer). x .number) e)
         (ap (λ (x : LinkAnswer). x .at) e),
   )
+
+-- ---- the lister
+
+pub list-sheet-law : (s : List ℕ) (text : Text) → text ≡ textOf (listingOf s) → ListSheetCall s text
+unfolding listingOf
+list-sheet-law s text e =
+    let n = readNumber s in
+    let made = linesTo (sheetOf s) (sheetOf s .channels) in
+    (n, answers (sheet-means s) refl (textOf made) (textOf (refusal n)) refl (e ∙ given-read textOf made (refusal n) n))

@@ -19,13 +19,14 @@ use Rattle.asking.specs.Naming.{naming, nameLeft}
 use Rattle.receiving.specs.Listening.{numbers, linkMade}
 use Rattle.counters.specs.Promised.{seen, AsksOf, TellsOf, SaidOf, Promised, Always}
 use Rattle.demands.specs.Demanded.{Demanded, DemandedAs}
-use Rattle.demands.specs.Calls.{SheetReadCall, SheetLengthCall, SheetWriteCall, UmvSheetReadCall, UmvSheetLengthCall, UmvSheetWriteCall, SizesCall, ChannelCall, NameCall, PartCall, PartOfCall, BuildCall, MultiplexCall, SpreadCall, GatherCall, TakeBackCall, FinishCall, HeardCall, UmvHeardCall, LinkCall}
-use Rattle.demands.proofs.CallLaws.{sheet-read-law, sheet-length-law, sheet-write-law, umv-sheet-read-law, umv-sheet-length-law, umv-sheet-write-law, sizes-law, channel-law, name-law, part-law, part-of-law, build-law, multiplex-law, spread-law, gather-law, take-back-law, finish-law, heard-law, umv-heard-law, link-law}
+use Rattle.demands.specs.Calls.{SheetReadCall, SheetLengthCall, SheetWriteCall, UmvSheetReadCall, UmvSheetLengthCall, UmvSheetWriteCall, SizesCall, ChannelCall, NameCall, PartCall, PartOfCall, BuildCall, MultiplexCall, SpreadCall, GatherCall, TakeBackCall, FinishCall, HeardCall, UmvHeardCall, LinkCall, ListSheetCall}
+use Rattle.demands.proofs.CallLaws.{sheet-read-law, sheet-length-law, sheet-write-law, umv-sheet-read-law, umv-sheet-length-law, umv-sheet-write-law, sizes-law, channel-law, name-law, part-law, part-of-law, build-law, multiplex-law, spread-law, gather-law, take-back-law, finish-law, heard-law, umv-heard-law, link-law, list-sheet-law}
 use Rattle.sheets.proofs.Unique as Sheets
 use Rattle.asking.proofs.Unique as Asking
 use Rattle.sending.proofs.Unique as Sending
 use Rattle.receiving.proofs.Unique as Receiving
 use Rattle.ummervia.proofs.Unique as Ummervia
+use Rattle.listing.proofs.Unique as Listing
 
 demanded : {call : Ended} {asks : AsksOf call} {tells : TellsOf call} {said : SaidOf call} → Promised call asks tells → Always call tells said
     → Demanded call asks tells said
@@ -187,6 +188,12 @@ pub umv-link : Demanded Rattle.ummervia.proofs.exports_home.umv_link.ended Ratt
     (λ κs (bytes, (number, (frame, (trch, _)))) r (_, (_, (_, (_, (at, (least, (greatest, (punctured, _)))))))).
     LinkCall (now bytes) number (now frame) trch r at (record { least = least; greatest = greatest; punctured = punctured }))
 umv-link = demanded Ummervia.umv-link (λ κs i r (_, (_, (_, (_, (at, (least, (greatest, (punctured, _)))))))) met. link-law _ _ _ _ (linkMade r at least greatest punctured) met)
+
+-- ---- the lister
+
+pub list-sheet : Demanded Rattle.listing.proofs.list_sheet.ended Rattle.listing.proofs.list_sheet.Reads.Asked Rattle.listing.proofs.list_sheet.Reads.Learnt
+    (λ κs (bytes, _) r _. ListSheetCall (now bytes) r)
+list-sheet = demanded Listing.list-sheet (λ κs i r v met. list-sheet-law _ r (met .0))
 
 -- what `numbers` says of one line, in full: 3 is answered exactly when the sheet has at least 2 bytes, its version is 1, and T is 0
 pub build-three : Always Rattle.sending.proofs.build.ended Rattle.sending.proofs.build.Reads.Learnt
