@@ -47,8 +47,8 @@ test: setup
 	@$(MAKE) --no-print-directory ctest
 	@tail -n 1 target/ci.log | grep -Ex '[0-9]+ passed, 0 failed'
 
-ctest: target/c/calls target/c/values target/c/vectors target/c/random target/c/home target/c/picture target/c/tour target/c/sizes \
-	$(LISTER) $(PICTURE)
+ctest: target/c/calls target/c/values target/c/vectors target/c/random target/c/home target/c/nan target/c/picture target/c/tour \
+	target/c/sizes $(LISTER) $(PICTURE)
 	$(RUN) target/c/calls
 	$(RUN) target/c/values
 	@run() { if [ -f "$$2" ]; then echo "$(RUN) target/c/vectors $$*"; $(RUN) target/c/vectors "$$@"; \
@@ -57,6 +57,7 @@ ctest: target/c/calls target/c/values target/c/vectors target/c/random target/c/
 	for file in $(CASES) '$(VECTORS)'; do run library "$$file"; done
 	$(RUN) target/c/random
 	$(RUN) target/c/home
+	$(RUN) target/c/nan
 	tests/lister.sh $(RUN) $(LISTER)
 	tests/picture.sh $(PICTURE) target/c/picture $(RUN)
 	$(RUN) target/c/tour > target/c/tour.txt
@@ -142,7 +143,7 @@ target/c/vectors target/c/random: tests/call.c tests/call.h
 target/c/random: $(wildcard tests/random-*.c) tests/random.h tests/lent.c tests/lent.h
 target/c/random target/c/home: tests/chance.c tests/chance.h
 target/c/calls: tests/refusals.c tests/sheets.c tests/sheets.h
-target/c/calls target/c/values: tests/check.c tests/check.h
+target/c/calls target/c/values target/c/nan: tests/check.c tests/check.h
 target/c/calls target/c/random: tests/fields.c tests/fields.h
 
 $(ARCHIVE): $(SOURCES)

@@ -4,7 +4,8 @@
  * What holds for every call:
  *
  * - It returns a number: UMV_OK (0), or why it was refused (enum umv_number). Where several reasons hold, the lowest
- *   number is given, except where a call says that it looks at a length before it can look at anything else.
+ *   number is given; but umv_sheet_length and umv_sheet_write give UMV_LENGTH (11) before all else where fields_len is not
+ *   UMV_FIELDS, since there are then no fields to ask anything else of.
  * - A slice is a pointer to its first value and a count of VALUES, not of bytes. Of an empty slice (count 0) the pointer
  *   is not followed and may have any value, null too.
  * - Every other pointer must be aligned for its type: 2 bytes for uint16_t, 4 for float, 8 for uint64_t. No call asks for
@@ -14,6 +15,8 @@
  *   of them writes is lent to no other.
  * - What is lent to one call must not overlap: no slice with another, no answer with a slice, no answer with another.
  * - A refused call leaves every lent slice as it was.
+ * - A NaN stays a NaN in all that a call moves or leaves as it was (umv_finish moves values unseen; umv_take_back and every
+ *   refused call leave some as they were). That its sign and payload stay too is tested and not proved.
  * - The pointers to single values at the end of a parameter list are answers: they must not be null and are always
  *   written, on a refusal with zeros; only UMV_CONTENT (12) gives in `at` the index of the first bad value, from 0.
  */

@@ -1,3 +1,4 @@
 pub mod AskLaws
 pub mod PartLaws
 pub mod NameLaws
+pub mod Unique

@@ -1,5 +1,5 @@
 -- Laws of asking for a name.
-use mathlib.Core.Path.{_≡_, sym, ap, _∙_}
+use mathlib.Core.Path.{_≡_, sym, ap, ap₂, _∙_}
 use mathlib.Core.Bool.{Bool, true, false, not}
 use mathlib.Core.List.{List, [], _∷_}
 use Prim.Native.Nat.{ℕ}
@@ -12,7 +12,7 @@ use Rattle.opening.specs.declared.OpenAnswer.{OpenAnswer}
 use Rattle.naming.specs.Name.{Name, nameOf, hasPlace}
 use Rattle.looking.specs.Looking.{frameLines, Begun}
 use Rattle.looking.proofs.LookLaws.{early-numbered, early-frame, begun-fields}
-use Rattle.asking.specs.Naming.{named, noName, nameNumber, nameAnswer}
+use Rattle.asking.specs.Naming.{naming, noName, nameNumber, nameAnswer}
 
 module _ (s : List ℕ) (frame : ℕ) (a : OpenAnswer) (b : Begun s (frameLines s frame) a) (slot phch place : ℕ) where
   abbrev found : Name
@@ -21,28 +21,28 @@ module _ (s : List ℕ) (frame : ℕ) (a : OpenAnswer) (b : Begun s (frameLines 
   abbrev number : ℕ
   number = nameNumber s frame slot phch place
 
-  same : {m : ℕ} {n : Name} → m ≡ number → n ≡ given number found noName → named m n ≡ nameAnswer s frame slot phch place
-  same p q = rw (p, q)
+  same : {m : ℕ} {n : Name} → m ≡ number → n ≡ given number found noName → naming m n ≡ nameAnswer s frame slot phch place
+  same p q = ap₂ naming p q
 
-  refuses : {m : ℕ} → m ≡ number → (m ≡ 0 → ⊥) → named m noName ≡ nameAnswer s frame slot phch place
+  refuses : {m : ℕ} → m ≡ number → (m ≡ 0 → ⊥) → naming m noName ≡ nameAnswer s frame slot phch place
   refuses p z = same p (sym (given-no number found noName (λ q. z (p ∙ q))))
 
   there : a .number ≡ 0 → {t : Bool} → hasPlace (a .opened .fields) slot phch place ≡ t → not (hasPlace (sheetOf s) slot phch place) ≡ not t
   there z h = ap (λ (x : Sheet). not (hasPlace x slot phch place)) (sym (begun-fields s a b z)) ∙ ap not h
 
-  pub name-no : (a .number ≡ 0 → ⊥) → named (a .number) noName ≡ nameAnswer s frame slot phch place
+  pub name-no : (a .number ≡ 0 → ⊥) → naming (a .number) noName ≡ nameAnswer s frame slot phch place
   name-no z =
       refuses
       (b .number
       ∙ first-append (frameLines s frame) (line (not (hasPlace (sheetOf s) slot phch place)) 10 ∷ []) (λ q. z (b .number ∙ q))) z
 
-  pub name-absent : a .number ≡ 0 → hasPlace (a .opened .fields) slot phch place ≡ false → named 10 noName ≡ nameAnswer s frame slot phch place
+  pub name-absent : a .number ≡ 0 → hasPlace (a .opened .fields) slot phch place ≡ false → naming 10 noName ≡ nameAnswer s frame slot phch place
   name-absent z h =
       refuses (last-holds (not (hasPlace (sheetOf s) slot phch place)) 10 (early-numbered (early-frame s frame)) (sym (b .number) ∙ z) (there z h))
       (λ q. omega arith)
 
   pub name-yes : a .number ≡ 0 → hasPlace (a .opened .fields) slot phch place ≡ true → {n : Name}
-      → n ≡ nameOf (a .opened .fields) frame slot phch place → named 0 n ≡ nameAnswer s frame slot phch place
+      → n ≡ nameOf (a .opened .fields) frame slot phch place → naming 0 n ≡ nameAnswer s frame slot phch place
   name-yes z h p =
       let e = last-clear (not (hasPlace (sheetOf s) slot phch place)) 10 (early-numbered (early-frame s frame)) (sym (b .number) ∙ z) (there z h) in
       same e

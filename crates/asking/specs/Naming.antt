@@ -11,12 +11,12 @@ pub record Naming : Type 0 where
   pub number : ℕ
   pub name : Name
 
-abbrev pub named : ℕ → Name → Naming
-named n name = record { number = n; name = name }
+abbrev pub naming : ℕ → Name → Naming
+naming n name = record { number = n; name = name }
 
 -- the same, the name by its numbers
 abbrev pub nameLeft : ℕ → ℕ → ℕ → ℕ → Naming
-nameLeft n channel bit copy = named n (record { channel = channel; bit = bit; copy = copy })
+nameLeft n channel bit copy = naming n (record { channel = channel; bit = bit; copy = copy })
 
 -- the zeros of a refusal
 abbrev pub noName : Name
@@ -31,4 +31,4 @@ nameNumber s frame slot phch place = firstOf (nameLines s frame slot phch place)
 
 abbrev pub nameAnswer : List ℕ → ℕ → ℕ → ℕ → ℕ → Naming
 nameAnswer s frame slot phch place =
-    named (nameNumber s frame slot phch place) (given (nameNumber s frame slot phch place) (nameOf (sheetOf s) frame slot phch place) noName)
+    naming (nameNumber s frame slot phch place) (given (nameNumber s frame slot phch place) (nameOf (sheetOf s) frame slot phch place) noName)

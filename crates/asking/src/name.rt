@@ -1,7 +1,7 @@
 // The name of a place: nothing is built.
 ghost use mathlib.Core.Path.{_≡_};
 ghost use Rattle.naming.specs.Name.{nameIn};
-ghost use Rattle.asking.specs.Naming.{named, noName, nameAnswer};
+ghost use Rattle.asking.specs.Naming.{naming, noName, nameAnswer};
 use counters::BitNumber;
 use counters::FrameNumber;
 use counters::PhchNumber;
@@ -19,7 +19,7 @@ pub struct NameAnswer {
 }
 
 fn no_name(number: u32) -> NameAnswer
-    ensures { λ r. ⌜ named (r .number) (nameIn (r .name)) ≡ named number noName ⌝ }
+    ensures { λ r. ⌜ naming (r .number) (nameIn (r .name)) ≡ naming number noName ⌝ }
 {
     let name = PlaceName {
         trch: TrchNumber(0),
@@ -31,14 +31,14 @@ fn no_name(number: u32) -> NameAnswer
 
 // Which copy of which bit of which channel stands at a place.
 pub fn name(bytes: &[u8], frame: FrameNumber, slot: u32, phch: PhchNumber, place: u32) -> NameAnswer
-    ensures { λ r. ⌜ named (r .number) (nameIn (r .name)) ≡ nameAnswer (now (bytes .entry)) (frame .0) slot (phch .0) place ⌝ }
+    ensures { λ r. ⌜ naming (r .number) (nameIn (r .name)) ≡ nameAnswer (now (bytes .entry)) (frame .0) slot (phch .0) place ⌝ }
 {
     let answer = open_sheet(bytes);
     let number = answer.number;
     if number != 0 {
         return no_name(number);
     }
-    if frame.0 > LAST_FRAME {
+    if frame.is_over(LAST_FRAME) {
         return no_name(9);
     }
     if exists_lent(

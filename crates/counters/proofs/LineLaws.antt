@@ -5,6 +5,7 @@ use mathlib.Core.List.{List, [], _∷_, _++_}
 use Prim.Native.Nat.{ℕ, suc, _<_}
 use native.Mathlib.Omega.{arith}
 use borrow.Author.Tests.{eq-eqb, ne-eqb}
+use lib.Dec.{eqb}
 use Rattle.counters.specs.Lines.{Line, line, firstOf, given}
 
 -- no line holds
@@ -57,6 +58,11 @@ last-holds b n m z e = here b n 0 e ∙ sym (append-clear (line b n ∷ []) (cle
 pub last-clear : {xs : List Line} (b : Bool) (n : ℕ) → Numbered xs → firstOf xs ≡ 0 → b ≡ false → 0 ≡ firstOf (xs ++ line b n ∷ [])
 last-clear b n m z e = past b n 0 e refl ∙ sym (append-clear (line b n ∷ []) (clear-of m z))
 
+pub last-zero : {xs : List Line} (b : Bool) (n : ℕ) → Numbered xs → firstOf (xs ++ line b (suc n) ∷ []) ≡ 0 → (firstOf xs ≡ 0) × (b ≡ false)
+last-zero {xs} b n m z =
+    let c = append-zero (line b (suc n) ∷ []) m z in
+    (of-clear c, pass-zero b n 0 (sym (append-clear (line b (suc n) ∷ []) c) ∙ z) .0)
+
 cond-same : (b : Bool) (n x y : ℕ) → (cond b n x ≡ 0 → ⊥) → ((x ≡ 0 → ⊥) → x ≡ y) → cond b n x ≡ cond b n y
 cond-same true n x y h k = refl
 cond-same false n x y h k = k h
@@ -72,3 +78,19 @@ module _ {A : Type 0} where
 
   pub given-no : (n : ℕ) (x y : A) → (n ≡ 0 → ⊥) → given n x y ≡ y
   given-no n x y h = ap (λ (b : Bool). cond b x y) (ne-eqb n 0 h)
+
+-- what is read off what is given, and two things given at once
+module _ {X Y : Type 0} where
+  cond-read : (f : X → Y) (x y : X) (b : Bool) → f (cond b x y) ≡ cond b (f x) (f y)
+  cond-read f x y true = refl
+  cond-read f x y false = refl
+
+  pub given-read : (f : X → Y) (x y : X) (n : ℕ) → f (given n x y) ≡ given n (f x) (f y)
+  given-read f x y n = cond-read f x y (eqb n 0)
+
+  cond-pair : (a b : X) (c d : Y) (t : Bool) → _≡_ {A = X × Y} (cond t a b, cond t c d) (cond t (a, c) (b, d))
+  cond-pair a b c d true = refl
+  cond-pair a b c d false = refl
+
+  pub given-pair : (n : ℕ) (a b : X) (c d : Y) → _≡_ {A = X × Y} (given n a b, given n c d) (given n (a, c) (b, d))
+  given-pair n a b c d = cond-pair a b c d (eqb n 0)

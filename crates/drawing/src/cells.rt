@@ -31,17 +31,18 @@ pub const LAYERS: u8 = HOLES + 1;
 
 // E of a channel.
 fn encoded(e: [u16; CHANNELS], trch: TrchNumber) -> u64 {
-    if trch.0 == 0 {
-        return 0;
+    if trch.is_among(CHANNELS as u16) {
+        let i = trch.index();
+        return wide(e[i]);
     }
-    let i = trch.index();
-    if i < CHANNELS { wide(e[i]) } else { 0 }
+    0
 }
 
 pub fn channel_look(trch: TrchNumber) -> u8
     ensures { λ r. ⌜ r < 32 ⌝ }
 {
-    if trch.0 < 32 { trch.0 as u8 } else { 0 }
+    let number = trch.number();
+    if number < 32 { number as u8 } else { 0 }
 }
 
 fn copy_look(copy: u64) -> u8
@@ -57,7 +58,7 @@ fn filler_look(bit: u64, e: u64) -> u8
 }
 
 fn look(e: [u16; CHANNELS], name: PlaceName) -> u8 {
-    let filler = filler_look(name.bit.0 as u64, encoded(e, name.trch));
+    let filler = filler_look(name.bit.number(), encoded(e, name.trch));
     channel_look(name.trch) + copy_look(name.copy) + filler
 }
 

@@ -22,7 +22,7 @@ use Rattle.naming.specs.Name.{indexOf, Exists}
 use Rattle.naming.proofs.Slots.{slot-in, phch-in, placed-at}
 use Rattle.naming.proofs.Places.{place-onto}
 use Rattle.homing.specs.Gather.{gathered}
-use Rattle.homing.specs.Home.{partOf, heardIn}
+use Rattle.homing.specs.Home.{heardIn}
 use Rattle.homing.proofs.GatherLaws.{length-gathered, spread-gathered}
 
 -- ---- a test that each element of a list passes
@@ -68,7 +68,7 @@ spread-passes sh ok test xs ys full long e h =
 module _ (sh : Sheet) (ok : Accepted sh) (i : ℕ) (l : i < sh .channels) (frame : List Float) where
   -- as many as the channel's share
   pub length-heard-in : length (heardIn sh i frame) ≡ shareOf sh i
-  unfolding heardIn partOf
+  unfolding heardIn
   length-heard-in =
       rw (length-take, length-drop, length-gathered nan sh ok frame)
       (omega (
@@ -78,7 +78,7 @@ module _ (sh : Sheet) (ok : Accepted sh) (i : ℕ) (l : i < sh .channels) (frame
       ))
 
   pub heard-passes : (test : Float → Bool) → length frame ≡ capacityAll sh → NoneFails test frame → NoneFails test (heardIn sh i frame)
-  unfolding heardIn partOf
+  unfolding heardIn
   heard-passes test full h =
       let xs = gathered nan sh frame in
       none-take test (shareOf sh i) (drop (cutOf sh i) xs)

@@ -18,7 +18,7 @@ use Rattle.sheet.specs.Range.{Accepted}
 use Rattle.sheet.specs.declared.Sheet.{Sheet}
 use Rattle.interleaving.specs.Second.{secondInterleaved, secondUndone}
 use Rattle.interleaving.proofs.SecondLaws.{second-length, undone-length, second-undone, second-redone}
-use Rattle.mapping.specs.Mapping.{at, ones, slotSize, slotOf, bitsOf}
+use Rattle.mapping.specs.Mapping.{at, ones, slotSize, slotOf, slotUndone}
 use Rattle.mapping.proofs.MappedLaws.{mapped-length, unmapped-length, unmapped-mapped, mapped-unmapped}
 use Rattle.frame.specs.Frame.{capsOf, slotStart, slotPart, interleavedSlots, interleavedBits, mappedSlots, spread}
 use Rattle.frame.proofs.FrameLaws.{caps-size, length-slot-part, spread-map}
@@ -29,15 +29,15 @@ use Rattle.homing.specs.Gather.{unmappedSlots, undoneSlots, undoneBits, 
 
 -- what a slot gives of its part of the frame, by the capacities and the part as the code lends them
 pub slot-taken : {A : Type 0} (z : A) (sh : Sheet) (t : ℕ) (xs : List A) {a u p : ℕ} → a ≡ slotStart sh t → u ≡ slotCapacity sh t → p ≡ phchsOf sh t
-    → bitsOf (take (mostCodes * t + p - mostCodes * t) (drop (mostCodes * t) (sh .caps))) z (take (a + u - a) (drop a xs))
-    ≡ bitsOf (capsOf sh t) z (slotPart sh t xs)
+    → slotUndone (take (mostCodes * t + p - mostCodes * t) (drop (mostCodes * t) (sh .caps))) z (take (a + u - a) (drop a xs))
+    ≡ slotUndone (capsOf sh t) z (slotPart sh t xs)
 unfolding capsOf
 slot-taken z sh t xs {p = p} ea eu ep =
     let e : mostCodes * t + p - mostCodes * t ≡ phchsOf sh t = omega arith in
-    ap₂ (λ (c : List ℕ) (w : List _). bitsOf c z w) (ap (λ (x : ℕ). take x (drop (mostCodes * t) (sh .caps))) e) (part-is sh t xs ea eu)
+    ap₂ (λ (c : List ℕ) (w : List _). slotUndone c z w) (ap (λ (x : ℕ). take x (drop (mostCodes * t) (sh .caps))) e) (part-is sh t xs ea eu)
 
 pub length-taken : {A : Type 0} (z : A) (sh : Sheet) → Accepted sh → (t : ℕ) (p : List A) → t < sh .slots
-    → length (bitsOf (capsOf sh t) z p) ≡ slotCapacity sh t
+    → length (slotUndone (capsOf sh t) z p) ≡ slotCapacity sh t
 length-taken z sh ok t p l = unmapped-length (at (capsOf sh t)) ones (length (capsOf sh t)) z p ∙ caps-size sh ok t l
 
 -- step 8 undone, by the mode
@@ -100,23 +100,23 @@ module _ {A : Type 0} (z : A) (sh : Sheet) (ok : Accepted sh) where
     length-given : length (slotOf (capsOf sh t) p p) ≡ slotCapacity sh t
     length-given = mapped-length (at (capsOf sh t)) ones (length (capsOf sh t)) p p ∙ n
 
-    taken-given : bitsOf (capsOf sh t) z (slotOf (capsOf sh t) p p) ≡ p
+    taken-given : slotUndone (capsOf sh t) z (slotOf (capsOf sh t) p p) ≡ p
     taken-given = unmapped-mapped (at (capsOf sh t)) ones (length (capsOf sh t)) (λ k h. omega arith) z p p fills fills
 
-    given-taken : slotOf (capsOf sh t) (bitsOf (capsOf sh t) z p) (bitsOf (capsOf sh t) z p) ≡ p
+    given-taken : slotOf (capsOf sh t) (slotUndone (capsOf sh t) z p) (slotUndone (capsOf sh t) z p) ≡ p
     given-taken =
-        mapped-unmapped (at (capsOf sh t)) ones (length (capsOf sh t)) (λ k h. omega arith) z p (bitsOf (capsOf sh t) z p) fills
+        mapped-unmapped (at (capsOf sh t)) ones (length (capsOf sh t)) (λ k h. omega arith) z p (slotUndone (capsOf sh t) z p) fills
         (unmapped-length (at (capsOf sh t)) ones (length (capsOf sh t)) z p)
 
   module _ (xs : List A) (full : length xs ≡ capacityAll sh) where
     unmapped-again : unmappedSlots z sh (mappedSlots sh xs) ≡ xs
     unfolding unmappedSlots mappedSlots
-    unmapped-again = undone-slots sh (λ t p. bitsOf (capsOf sh t) z p) (λ t p. slotOf (capsOf sh t) p p) length-given taken-given xs full
+    unmapped-again = undone-slots sh (λ t p. slotUndone (capsOf sh t) z p) (λ t p. slotOf (capsOf sh t) p p) length-given taken-given xs full
 
     mapped-again : mappedSlots sh (unmappedSlots z sh xs) ≡ xs
     unfolding unmappedSlots mappedSlots
     mapped-again =
-        undone-slots sh (λ t p. slotOf (capsOf sh t) p p) (λ t p. bitsOf (capsOf sh t) z p) (λ t p l n. length-taken z sh ok t p l) given-taken xs full
+        undone-slots sh (λ t p. slotOf (capsOf sh t) p p) (λ t p. slotUndone (capsOf sh t) z p) (λ t p l n. length-taken z sh ok t p l) given-taken xs full
 
     -- step 8 in mode 1
     undone-by-slots : undoneSlots z sh (interleavedSlots sh xs) ≡ xs

@@ -23,11 +23,10 @@ use Rattle.pattern.proofs.MatchedLaws.{shared-matched}
 use Rattle.interleaving.proofs.FirstLaws.{segment-at}
 use Rattle.frame.specs.Frame.{startAt, sentOf, multiplexed, frameOf}
 use Rattle.frame.proofs.FrameLaws.{partOf, turn-inside, sent-matched, length-part, length-sent, channels-begin, length-multiplexed, frame-map}
-use Rattle.naming.specs.Name.{Name, Label, labelAt, labels, named, labelFrame, bitNumber, bitName}
+use Rattle.naming.specs.Name.{Name, Label, labelAt, labels, copyNamed, labelFrame, bitNumber, bitName}
 use Rattle.naming.proofs.Named.{labels-full}
 use Rattle.joining.specs.Joining.{plusZero, joinOf, valueOf}
 use Rattle.joining.proofs.HomeLaws.{home-shared}
-use Rattle.homing.specs.Home as Home
 use Rattle.homing.specs.Home.{heardIn, segmentHome, segmentStart, takenBack, heardAt}
 use Rattle.homing.proofs.GatherLaws.{gathered-spread}
 use Rattle.homing.proofs.Taken.{taken-inside}
@@ -38,7 +37,7 @@ module _ {A : Type 0} (f : A → ℕ → Float) (sh : Sheet) (ok : Accepted sh) 
     (full : (i : ℕ) → i < sh .channels → length (ts i) ≡ equalisedOf sh i) (i : ℕ) (l : i < sh .channels) where
   -- steps 9 to 7 undone: what channel i sent
   pub heard-sent : heardIn sh i (frameOf f sh number ts) ≡ sentOf f sh number i (ts i)
-  unfolding heardIn Home.partOf frameOf multiplexed
+  unfolding heardIn frameOf multiplexed
   heard-sent =
       let all = multiplexed f sh number ts in
       ap (λ (xs : List Float). take (shareOf sh i) (drop (cutOf sh i) xs)) (gathered-spread nan sh ok all (length-multiplexed f sh ok number ts full))
@@ -64,22 +63,22 @@ module _ {A : Type 0} (f : A → ℕ → Float) (sh : Sheet) (ok : Accepted sh) 
 -- ---- a received frame by its names
 
 module _ (sh : Sheet) (ok : Accepted sh) (number : ℕ) (f : Name → Float) where
-  sent-by-name : map f (labelFrame sh number) ≡ frameOf (λ a j. f (named a j)) sh number (labels sh)
+  sent-by-name : map f (labelFrame sh number) ≡ frameOf (λ a j. f (copyNamed a j)) sh number (labels sh)
   unfolding labelFrame
-  sent-by-name = sym (frame-map named f sh ok number (labels sh))
+  sent-by-name = sym (frame-map copyNamed f sh ok number (labels sh))
 
   module _ (i m : ℕ) (l : i < sh .channels) (h : m < sizeOf sh i) where
     -- the label in row m of column P(n) is that of the segment's bit m
     label-here : (c : ℕ) (z : Label)
-        → named (getD (labels sh i) (m * framesOf sh i + columnAt (ttiOf sh i) (number % framesOf sh i)) z) c ≡ bitName sh number i m c
+        → copyNamed (getD (labels sh i) (m * framesOf sh i + columnAt (ttiOf sh i) (number % framesOf sh i)) z) c ≡ bitName sh number i m c
     unfolding labels bitName bitNumber
     label-here c z =
         let F = framesOf sh i in
         let k = m * F + columnAt (ttiOf sh i) (number % F) in
         let hc = column-swaps (ttiOf sh i) (number % F) (ok .ranged .tti i l) (turn-inside sh ok number i l) .0 in
         let b : k < equalisedOf sh i = omega (arith, digits-lt {q = m} {m = sizeOf sh i} {c = F} h hc, mul-comm F (sizeOf sh i)) in
-        ap (λ (a : Label). named a c) (table-get (labelAt i) (equalisedOf sh i) k z b)
-        ∙ ap₂ (λ (x y : ℕ). named (record { channel = x; bit = y }) c) (sym (add-one i)) (sym (add-one k))
+        ap (λ (a : Label). copyNamed a c) (table-get (labelAt i) (equalisedOf sh i) k z b)
+        ∙ ap₂ (λ (x y : ℕ). copyNamed (record { channel = x; bit = y }) c) (sym (add-one i)) (sym (add-one k))
 
     -- the values that are shared out to bit m of channel i's segment are those of its own names, copy after copy
     pub shares-named : getD (shared (changeOf sh i) (sizeOf sh i) (startAt sh number i) (heardIn sh i (map f (labelFrame sh number)))) m []
@@ -90,8 +89,8 @@ module _ (sh : Sheet) (ok : Accepted sh) (number : ℕ) (f : Name → Float) whe
         let e = startAt sh number i in
         let k = m * framesOf sh i + columnAt (ttiOf sh i) (number % framesOf sh i) in
         ap (λ (v : List Float). getD (shared d (sizeOf sh i) e (heardIn sh i v)) m []) sent-by-name
-        ∙ shares-sent (λ a j. f (named a j)) sh ok number (labels sh) (labels-full sh) i l m z h
-        ∙ table-alike (λ c. f (named (getD (labels sh i) k z) c)) (λ c. f (bitName sh number i m c)) (copiesOf d (sizeOf sh i) e m) nan
+        ∙ shares-sent (λ a j. f (copyNamed a j)) sh ok number (labels sh) (labels-full sh) i l m z h
+        ∙ table-alike (λ c. f (copyNamed (getD (labels sh i) k z) c)) (λ c. f (bitName sh number i m c)) (copiesOf d (sizeOf sh i) e m) nan
         (λ c b. ap f (label-here c z))
 
     -- S7: "Copies are added in the order copy 0, 1, 2, .., each sum rounded once": what was heard of the bit

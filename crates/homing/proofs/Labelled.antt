@@ -12,7 +12,7 @@ use Rattle.sheet.specs.Sizes.{capacityAll}
 use Rattle.sheet.specs.Range.{Accepted}
 use Rattle.sheet.specs.declared.Sheet.{Sheet}
 use Rattle.frame.proofs.FrameLaws.{length-frame}
-use Rattle.naming.specs.Name.{Name, named, labels, labelFrame, indexOf, nameOf, Exists}
+use Rattle.naming.specs.Name.{Name, copyNamed, labels, labelFrame, indexOf, nameOf, Exists}
 use Rattle.naming.proofs.Named.{labels-full, names}
 use Rattle.naming.proofs.Places.{index-onto}
 use Rattle.naming.proofs.Nowhere.{labels-apart}
@@ -62,7 +62,7 @@ looked-at (m ∷ ms) (v ∷ vs) (suc x) d z e h apart =
 
 pub length-labels : (sh : Sheet) → Accepted sh → (number : ℕ) → length (labelFrame sh number) ≡ capacityAll sh
 unfolding labelFrame
-length-labels sh ok number = length-frame named sh ok number (labels sh) (labels-full sh)
+length-labels sh ok number = length-frame copyNamed sh ok number (labels sh) (labels-full sh)
 
 -- each place of D soft values has the value f of its name
 pub labelled : (sh : Sheet) → Accepted sh → (number : ℕ) (frame : List Float) → length frame ≡ capacityAll sh

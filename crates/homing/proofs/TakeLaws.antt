@@ -1,6 +1,6 @@
 -- Laws of taking a channel's segment out of its values.
 use mathlib.Core.Path.{_≡_, refl, sym, ap, ap₂, _∙_}
-use mathlib.Core.Bool.{Bool, false}
+use mathlib.Core.Bool.{false}
 use mathlib.Core.List.{List, [], _∷_, _++_, map, append-assoc}
 use Prim.Native.Nat.{ℕ, zero, suc, _+_, _*_, _-_, _%_, _≤_, _<_}
 use native.Mathlib.Nat.{suc-mul, mul-le-mul-right}
@@ -11,13 +11,11 @@ use lib.Ieee.{Float}
 use borrow.Rule.Slice.PartMut.{putMid, post-is}
 use lib.ListN.{length, getD, take, drop}
 use lib.Seq.{sets, sets-eq}
-use Rattle.sheet.specs.Counts.{mostBits}
 use Rattle.sheet.specs.Sizes.{framesOf, sizeOf}
-use Rattle.sheet.specs.Range.{Accepted}
 use Rattle.sheet.specs.declared.Sheet.{Sheet}
 use Rattle.matching.specs.Signed.{signedBy}
-use Rattle.matching.specs.Shares.{shareOf, changeOf}
-use Rattle.pattern.specs.Pattern.{again, grown, after, sharedFrom, shared, Segment}
+use Rattle.matching.specs.Shares.{changeOf, channelPart}
+use Rattle.pattern.specs.Pattern.{again, grown, after, sharedFrom, shared}
 use Rattle.matching.proofs.SignedLaws.{magnitude}
 use Rattle.frame.specs.Frame.{startAt}
 use Rattle.frame.specs.Walk.{Walks}
@@ -30,7 +28,7 @@ use Rattle.opening.specs.Opened.{Opens}
 use Rattle.opening.specs.declared.Opened.{Opened}
 use Rattle.opening.proofs.OpenLaws.{low-is}
 use Rattle.frame.proofs.SendLaws.{cut-share}
-use Rattle.homing.specs.Home.{partOf, channelStart, segmentStart}
+use Rattle.homing.specs.Home.{channelStart, segmentStart}
 use Rattle.homing.specs.Taking.{homeIn, hearIn, surveyIn, takenFrom}
 
 -- where there is no bit, or d = 0, no start counts
@@ -88,7 +86,7 @@ module _ (o : Opened) (h : Opens o) (number : ℕ) (ms old l : List Float) (i ba
 
   module _ (was : l ≡ takenFrom sh number ms i old) (eb : base ≡ channelStart sh i) (ef : from ≡ number % framesOf sh i * sizeOf sh i) where
     pub taken-next : {size : ℕ} {y : List Float} → size ≡ sizeOf sh i → base + from + size ≤ length l → length y ≡ base + from + size - (base + from)
-        → y ≡ homeIn sh number i (partOf sh i ms)
+        → y ≡ homeIn sh number i (channelPart sh i ms)
         → putMid (base + from) (base + from + size - (base + from)) l y ≡ takenFrom sh number ms (i + 1) old
     unfolding takenFrom segmentStart
     taken-next {size} {y} es b n q =
@@ -99,6 +97,5 @@ module _ (o : Opened) (h : Opens o) (number : ℕ) (ms old l : List Float) (i ba
 
 -- the channel's part by its cuts
 pub part-at : {A : Type 0} (o : Opened) → Opens o → (i : ℕ) → i < o .fields .channels → (xs : List A)
-    → take (getD (o .cuts) (i + 1) 0 - getD (o .cuts) i 0) (drop (getD (o .cuts) i 0) xs) ≡ partOf (o .fields) i xs
-unfolding partOf
+    → take (getD (o .cuts) (i + 1) 0 - getD (o .cuts) i 0) (drop (getD (o .cuts) i 0) xs) ≡ channelPart (o .fields) i xs
 part-at o h i l xs = ap₂ (λ (n k : ℕ). take n (drop k xs)) (cut-share o h i l) (low-is o h i l)

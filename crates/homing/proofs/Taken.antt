@@ -83,7 +83,7 @@ module _ (sh : Sheet) where
   unfolding segmentStart
   segment-below number i l = segment-within i (number % framesOf sh i) l (turn-below number i)
 
-  segments-apart : (number i m j o : ℕ) → m < sizeOf sh i → o < sizeOf sh j → segmentStart sh number i + m ≡ segmentStart sh number j + o → i ≡ j
+  pub segments-apart : (number i m j o : ℕ) → m < sizeOf sh i → o < sizeOf sh j → segmentStart sh number i + m ≡ segmentStart sh number j + o → i ≡ j
   unfolding segmentStart
   segments-apart number i m j o h k e =
       spots-apart i (number % framesOf sh i) m j (number % framesOf sh j) o (turn-below number i) h (turn-below number j) k e .0

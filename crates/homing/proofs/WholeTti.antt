@@ -101,13 +101,16 @@ module _ (sh : Sheet) (ok : Accepted sh) (i : ℕ) (l : i < sh .channels) where
     turns : (turn < framesOf sh i) × (columnAt (ttiOf sh i) turn ≡ j % framesOf sh i)
     turns = column-swaps (ttiOf sh i) (j % framesOf sh i) known (turn-inside sh ok j i l)
 
+    pub turn-below : columnAt (ttiOf sh i) (j % framesOf sh i) < framesOf sh i
+    turn-below = turns .0
+
     place : row * framesOf sh i + columnAt (ttiOf sh i) turn ≡ j
     place = ap (λ (c : ℕ). row * framesOf sh i + c) (turns .1) ∙ div-add-mod' j (framesOf sh i)
 
     inside : j < equalisedOf sh i
     inside = omega (arith, segments-hold (encodedOf sh i) (framesOf sh i) (frames-bounds (ttiOf sh i) known .0) .0)
 
-    row-inside : row < sizeOf sh i
+    pub row-inside : j / framesOf sh i < sizeOf sh i
     row-inside = row-below (ttiOf sh i) known (sizeOf sh i) row (j % framesOf sh i) (omega (arith, inside, div-add-mod' j (framesOf sh i)))
 
     -- it has that number before step 2, and in the frame that sends it as many places have its name as it has copies

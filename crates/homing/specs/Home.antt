@@ -8,7 +8,7 @@ use Rattle.laws.specs.Sums.{sumTo}
 use Rattle.sheet.specs.Fields.{ttiOf, encodedOf}
 use Rattle.sheet.specs.Sizes.{framesOf, sizeOf, equalisedOf}
 use Rattle.sheet.specs.declared.Sheet.{Sheet}
-use Rattle.matching.specs.Shares.{cutOf, shareOf, changeOf}
+use Rattle.matching.specs.Shares.{changeOf, channelPart}
 use Rattle.pattern.specs.Pattern.{shared}
 use Rattle.interleaving.specs.First.{finished}
 use Rattle.frame.specs.Frame.{startAt}
@@ -18,13 +18,9 @@ use Rattle.joining.specs.declared.Heard.{Heard}
 use Rattle.joining.specs.declared.linking.Link.{Link}
 use Rattle.homing.specs.Gather.{gathered}
 
--- step 7 undone: channel i's part of a multiplexed frame
-unfoldable pub partOf : {A : Type 0} → Sheet → ℕ → List A → List A
-partOf sh i xs = take (shareOf sh i) (drop (cutOf sh i) xs)
-
 -- the values of channel i in a received frame, in the order in which they were sent
 unfoldable pub heardIn : Sheet → ℕ → List Float → List Float
-heardIn sh i frame = partOf sh i (gathered nan sh frame)
+heardIn sh i frame = channelPart sh i (gathered nan sh frame)
 
 -- step 6 undone: the N joined values of channel i's segment in this frame
 unfoldable pub segmentHome : Sheet → ℕ → ℕ → List Float → List Float

@@ -6,14 +6,14 @@ use lib.ListN.{getD}
 use lib.Seq.{sets}
 use Rattle.sheet.specs.Sizes.{sizeOf}
 use Rattle.sheet.specs.declared.Sheet.{Sheet}
-use Rattle.matching.specs.Shares.{changeOf}
+use Rattle.matching.specs.Shares.{changeOf, channelPart}
 use Rattle.pattern.specs.Pattern.{shared}
 use Rattle.frame.specs.Frame.{startAt}
 use Rattle.joining.specs.Joining.{joinOf, heardOf, homeOf}
 use Rattle.joining.specs.Linked.{linkOf}
 use Rattle.joining.specs.declared.Heard.{Heard}
 use Rattle.joining.specs.declared.linking.Link.{Link}
-use Rattle.homing.specs.Home.{partOf, segmentStart}
+use Rattle.homing.specs.Home.{segmentStart}
 
 -- a channel's segment, out of its values as they were sent
 unfoldable pub homeIn : Sheet → ℕ → ℕ → List Float → List Float
@@ -28,4 +28,4 @@ surveyIn sh number i vs = linkOf (heardOf (changeOf sh i) (sizeOf sh i) (startAt
 -- the segments of the first n channels, written over what stood in the buffer
 unfoldable pub takenFrom : Sheet → ℕ → List Float → ℕ → List Float → List Float
 takenFrom sh number ms zero old = old
-takenFrom sh number ms (suc n) old = sets (takenFrom sh number ms n old) (segmentStart sh number n) (homeIn sh number n (partOf sh n ms))
+takenFrom sh number ms (suc n) old = sets (takenFrom sh number ms n old) (segmentStart sh number n) (homeIn sh number n (channelPart sh n ms))

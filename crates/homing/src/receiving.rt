@@ -4,16 +4,18 @@ ghost use Prim.Native.Nat.{_≤_, _<_};
 ghost use lib.Ieee.{nan};
 ghost use lib.ListN.{length};
 ghost use Rattle.sheet.specs.Sizes.{sizeOf, capacityAll};
+ghost use Rattle.matching.specs.Shares.{channelPart};
 ghost use Rattle.opening.specs.Opened.{Opens};
 ghost use Rattle.homing.specs.Gather.{gathered};
-ghost use Rattle.homing.specs.Home.{partOf};
 ghost use Rattle.homing.specs.Taking.{hearIn, surveyIn};
-ghost use Rattle.homing.specs.Receiving.{Askable, receptionOf, receivedInto, smallFrame, middleFrame, largeFrame};
+ghost use Rattle.homing.specs.Receiving.{Findable, Askable, foundOf, receptionOf, receivedInto, smallFrame, middleFrame, largeFrame};
 use crate::gathering::gather_values;
 use crate::taking::hear_channel;
 use crate::taking::survey_channel;
 use crate::taking::take_segments;
+use counters::BitNumber;
 use counters::FrameNumber;
+use counters::TrchNumber;
 use joining::Heard;
 use joining::linking::Link;
 use opening::Opened;
@@ -26,11 +28,16 @@ pub const MIDDLE: usize = 4096;
 
 pub const LARGE: usize = 16384;
 
-// Every channel's segment; what was heard of a bit of a channel's segment; a channel's link record. Channels and bits are counted from 0.
+// Of one channel: what was heard of a bit of its segment, or its link record.
+pub enum Wanted {
+    Bit(TrchNumber, BitNumber),
+    Channel(TrchNumber),
+}
+
+// Every channel's segment, or something of one channel.
 pub enum Asked {
     All,
-    Bit(usize, usize),
-    Channel(usize),
+    One(Wanted),
 }
 
 // What was heard of the bit, and the link record; nothing where they were not asked.
@@ -41,7 +48,7 @@ pub struct Reception {
 
 fn hear_part(values: &[f32], opened: Opened, number: FrameNumber, i: usize, m: usize) -> Heard
     requires { ⌜ Opens opened × (length (now values) ≡ capacityAll (opened .fields)) × (i < opened .fields .channels) × (m < sizeOf (opened .fields) i) ⌝ }
-    ensures { λ r. ⌜ r ≡ hearIn (opened .fields) (number .0) i m (partOf (opened .fields) i (now (values .entry))) ⌝ }
+    ensures { λ r. ⌜ r ≡ hearIn (opened .fields) (number .0) i m (channelPart (opened .fields) i (now (values .entry))) ⌝ }
 {
     let cuts = opened.cuts;
     let a = cuts[i] as usize;
@@ -51,12 +58,32 @@ fn hear_part(values: &[f32], opened: Opened, number: FrameNumber, i: usize, m: u
 
 fn survey_part(values: &[f32], opened: Opened, number: FrameNumber, i: usize) -> Link
     requires { ⌜ Opens opened × (length (now values) ≡ capacityAll (opened .fields)) × (i < opened .fields .channels) ⌝ }
-    ensures { λ r. ⌜ r ≡ surveyIn (opened .fields) (number .0) i (partOf (opened .fields) i (now (values .entry))) ⌝ }
+    ensures { λ r. ⌜ r ≡ surveyIn (opened .fields) (number .0) i (channelPart (opened .fields) i (now (values .entry))) ⌝ }
 {
     let cuts = opened.cuts;
     let a = cuts[i] as usize;
     let z = cuts[i + 1] as usize;
     survey_channel(&values[a..z], opened, i, number)
+}
+
+fn find(values: &[f32], opened: Opened, number: FrameNumber, wanted: Wanted) -> Reception
+    requires { ⌜ Opens opened × (length (now values) ≡ capacityAll (opened .fields)) × Findable (opened .fields) wanted ⌝ }
+    ensures { λ r. ⌜ r ≡ foundOf (opened .fields) (number .0) (now (values .entry)) wanted ⌝ }
+{
+    match wanted {
+        Wanted::Bit(trch, bit) => {
+            let heard = hear_part(values, opened, number, trch.index(), bit.index());
+            let link = Link::new();
+            Reception { heard, link }
+        }
+        Wanted::Channel(trch) => {
+            let link = survey_part(values, opened, number, trch.index());
+            Reception {
+                heard: Heard::Nothing,
+                link,
+            }
+        }
+    }
 }
 
 // Of gathered values.
@@ -79,18 +106,7 @@ fn answer(
                 link,
             }
         }
-        Asked::Bit(i, m) => {
-            let heard = hear_part(values, opened, number, i, m);
-            let link = Link::new();
-            Reception { heard, link }
-        }
-        Asked::Channel(i) => {
-            let link = survey_part(values, opened, number, i);
-            Reception {
-                heard: Heard::Nothing,
-                link,
-            }
-        }
+        Asked::One(wanted) => find(values, opened, number, wanted),
     }
 }
 

@@ -16,7 +16,7 @@ use Rattle.laws.proofs.TestLaws.{both, below, below-at}
 use Rattle.orders.specs.Orders.{order, turnOf}
 use Rattle.orders.proofs.OrderLaws.{turn-order, order-turn, length-order}
 use Rattle.interleaving.specs.Columns.{height, columns}
-use Rattle.interleaving.specs.Second.{secondInterleaved, readBefore, placeOf, turnAt, sourceOf, secondUndone}
+use Rattle.interleaving.specs.Second.{secondInterleaved, readBefore, goesTo, turnAt, comesFrom, secondUndone}
 use Rattle.interleaving.proofs.ColumnLaws.{Among, columns-length, columns-at, columns-map}
 
 order-among : Among 30 order
@@ -60,16 +60,16 @@ read-most K t (suc n) =
 -- ---- where an element goes, and where it comes from
 
 -- row r of the column of turn t
-pub place-row : (K t r : ℕ) → t < 30 → placeOf K (30 * r + getD order t 0) ≡ r + readBefore K t
-unfolding placeOf
+pub place-row : (K t r : ℕ) → t < 30 → goesTo K (30 * r + getD order t 0) ≡ r + readBefore K t
+unfolding goesTo
 place-row K t r h =
     let o = order-turn t h in
     let a : (30 * r + getD order t 0) / 30 ≡ r = omega (arith, o .0) in
     let b : (30 * r + getD order t 0) % 30 ≡ getD order t 0 = omega (arith, o .0) in
     ap₂ (λ (x y : ℕ). x + readBefore K (turnOf y)) a b ∙ ap (λ (y : ℕ). r + readBefore K y) (o .1)
 
-pub place-below : (K k : ℕ) → k < K → placeOf K k < K
-unfolding placeOf
+pub place-below : (K k : ℕ) → k < K → goesTo K k < K
+unfolding goesTo
 place-below K k h =
     let s = turn-order (k % 30) (omega arith) in
     let t = turnOf (k % 30) in
@@ -81,14 +81,14 @@ pub turn-passes : (K j : ℕ) → j < K → Passes (readBefore K) j 0 30 (turnAt
 unfolding turnAt
 turn-passes K j h = first-passes (readBefore K) j 30 (unfold sumTo in omega arith) (rw (read-all K) h)
 
-pub source-below : (K j : ℕ) → j < K → sourceOf K j < K
-unfolding sourceOf
+pub source-below : (K j : ℕ) → j < K → comesFrom K j < K
+unfolding comesFrom
 source-below K j h =
     let p = turn-passes K j h in
     omega (arith, p .low, p .high, read-suc K (turnAt K j), order-turn (turnAt K j) (p .below) .0)
 
-pub place-source : (K j : ℕ) → j < K → placeOf K (sourceOf K j) ≡ j
-unfolding sourceOf
+pub place-source : (K j : ℕ) → j < K → goesTo K (comesFrom K j) ≡ j
+unfolding comesFrom
 place-source K j h =
     let p = turn-passes K j h in
     place-row K (turnAt K j) (j - readBefore K (turnAt K j)) (p .below) ∙ omega (arith, p .low)
@@ -102,8 +102,8 @@ module _ {A : Type 0} where
       ∙ read-all (length xs)
 
   -- element k, where it goes
-  pub second-place : (xs : List A) (k : ℕ) (z : A) → k < length xs → getD (secondInterleaved xs) (placeOf (length xs) k) z ≡ getD xs k z
-  unfolding secondInterleaved placeOf
+  pub second-place : (xs : List A) (k : ℕ) (z : A) → k < length xs → getD (secondInterleaved xs) (goesTo (length xs) k) z ≡ getD xs k z
+  unfolding secondInterleaved goesTo
   second-place xs k z h =
       let s = turn-order (k % 30) (omega arith) in
       let t = turnOf (k % 30) in
@@ -114,27 +114,27 @@ module _ {A : Type 0} where
       ∙ ap (λ (j : ℕ). getD xs j z) b
 
   -- what stands at index j, from where it comes
-  pub second-at : (xs : List A) (j : ℕ) (z : A) → j < length xs → getD (secondInterleaved xs) j z ≡ getD xs (sourceOf (length xs) j) z
+  pub second-at : (xs : List A) (j : ℕ) (z : A) → j < length xs → getD (secondInterleaved xs) j z ≡ getD xs (comesFrom (length xs) j) z
   second-at xs j z h =
       ap (λ (i : ℕ). getD (secondInterleaved xs) i z) (sym (place-source (length xs) j h))
-      ∙ second-place xs (sourceOf (length xs) j) z (source-below (length xs) j h)
+      ∙ second-place xs (comesFrom (length xs) j) z (source-below (length xs) j h)
 
 -- the numbers below K carry their own places
-pub source-place : (K k : ℕ) → k < K → sourceOf K (placeOf K k) ≡ k
+pub source-place : (K k : ℕ) → k < K → comesFrom K (goesTo K k) ≡ k
 source-place K k h =
     let xs = table (λ i. i) 0 K in
     let e : length xs ≡ K = table-length (λ i. i) 0 K in
-    let b = source-below K (placeOf K k) (place-below K k h) in
-    sym (table-get (λ i. i) K (sourceOf K (placeOf K k)) 0 b)
-    ∙ ap (λ (n : ℕ). getD xs (sourceOf n (placeOf K k)) 0) (sym e)
-    ∙ sym (second-at xs (placeOf K k) 0 (omega (arith, e, place-below K k h)))
-    ∙ ap (λ (n : ℕ). getD (secondInterleaved xs) (placeOf n k) 0) (sym e)
+    let b = source-below K (goesTo K k) (place-below K k h) in
+    sym (table-get (λ i. i) K (comesFrom K (goesTo K k)) 0 b)
+    ∙ ap (λ (n : ℕ). getD xs (comesFrom n (goesTo K k)) 0) (sym e)
+    ∙ sym (second-at xs (goesTo K k) 0 (omega (arith, e, place-below K k h)))
+    ∙ ap (λ (n : ℕ). getD (secondInterleaved xs) (goesTo n k) 0) (sym e)
     ∙ second-place xs k 0 (omega (arith, e))
     ∙ table-get (λ i. i) K k 0 h
 
 -- no two elements go to one place
-pub place-once : (K i j : ℕ) → i < K → j < K → placeOf K i ≡ placeOf K j → i ≡ j
-place-once K i j hi hj e = sym (source-place K i hi) ∙ ap (sourceOf K) e ∙ source-place K j hj
+pub place-once : (K i j : ℕ) → i < K → j < K → goesTo K i ≡ goesTo K j → i ≡ j
+place-once K i j hi hj e = sym (source-place K i hi) ∙ ap (comesFrom K) e ∙ source-place K j hj
 
 -- ---- undoing, and maps
 
@@ -143,9 +143,9 @@ module _ {A : Type 0} (z : A) where
   unfolding secondUndone
   undone-length ys = table-length _ 0 (length ys)
 
-  pub undone-at : (ys : List A) (k : ℕ) (d : A) → k < length ys → getD (secondUndone z ys) k d ≡ getD ys (placeOf (length ys) k) z
+  pub undone-at : (ys : List A) (k : ℕ) (d : A) → k < length ys → getD (secondUndone z ys) k d ≡ getD ys (goesTo (length ys) k) z
   unfolding secondUndone
-  undone-at ys k d h = table-get (λ k. getD ys (placeOf (length ys) k) z) (length ys) k d h
+  undone-at ys k d h = table-get (λ k. getD ys (goesTo (length ys) k) z) (length ys) k d h
 
   pub second-undone : (xs : List A) → secondUndone z (secondInterleaved xs) ≡ xs
   second-undone xs =
@@ -154,7 +154,7 @@ module _ {A : Type 0} (z : A) where
       (λ k l.
       let b : k < length xs = omega (arith, undone-length (secondInterleaved xs)) in
       undone-at (secondInterleaved xs) k z (omega arith)
-      ∙ ap (λ (n : ℕ). getD (secondInterleaved xs) (placeOf n k) z) e
+      ∙ ap (λ (n : ℕ). getD (secondInterleaved xs) (goesTo n k) z) e
       ∙ second-place xs k z b)
 
   pub second-redone : (ys : List A) → secondInterleaved (secondUndone z ys) ≡ ys
@@ -164,8 +164,8 @@ module _ {A : Type 0} (z : A) where
       (λ j l.
       let b : j < length ys = omega (arith, second-length (secondUndone z ys)) in
       second-at (secondUndone z ys) j z (omega arith)
-      ∙ ap (λ (n : ℕ). getD (secondUndone z ys) (sourceOf n j) z) e
-      ∙ undone-at ys (sourceOf (length ys) j) z (source-below (length ys) j b)
+      ∙ ap (λ (n : ℕ). getD (secondUndone z ys) (comesFrom n j) z) e
+      ∙ undone-at ys (comesFrom (length ys) j) z (source-below (length ys) j b)
       ∙ ap (λ (i : ℕ). getD ys i z) (place-source (length ys) j b))
 
 module _ {A B : Type 0} (g : A → B) where

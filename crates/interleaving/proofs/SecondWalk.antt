@@ -14,7 +14,7 @@ use Rattle.laws.proofs.TableLaws.{tabled}
 use Rattle.orders.specs.Orders.{order}
 use Rattle.orders.proofs.OrderLaws.{order-turn}
 use Rattle.interleaving.specs.Columns.{height}
-use Rattle.interleaving.specs.Second.{secondInterleaved, readBefore, placeOf, turnAt, sourceOf, secondUndone}
+use Rattle.interleaving.specs.Second.{secondInterleaved, readBefore, goesTo, turnAt, comesFrom, secondUndone}
 use Rattle.interleaving.proofs.SecondLaws.{read-suc, read-all, place-row, place-below, place-once, turn-passes, second-length, second-place}
 
 -- of K elements, in turn t, element i goes to index k
@@ -43,8 +43,8 @@ module _ {K t k i : ℕ} (r : Reading K t k i) where
           index = omega (arith, r .from, r .index);
         }
 
-    pub reading-place : placeOf K i ≡ k
-    reading-place = ap (placeOf K) (r .index) ∙ place-row K t (k - readBefore K t) (r .turn) ∙ omega (arith, r .from)
+    pub reading-place : goesTo K i ≡ k
+    reading-place = ap (goesTo K) (r .index) ∙ place-row K t (k - readBefore K t) (r .turn) ∙ omega (arith, r .from)
 
     pub reading-below : k < K
     reading-below = omega (arith, reading-place, place-below K i h)
@@ -79,8 +79,8 @@ module _ {K j t c h left : ℕ} (p : Passing K j t c h left) where
         record { turn = passing-more b; column = e; high = q; index = rw (add-one t) (omega (arith, p .index, passing-high)) }
 
     -- within the turn
-    pub passing-ends : left < h → 30 * left + c ≡ sourceOf K j
-    unfolding sourceOf
+    pub passing-ends : left < h → 30 * left + c ≡ comesFrom K j
+    unfolding comesFrom
     passing-ends b =
         let up : (k : ℕ) → k < 30 → readBefore K k ≤ readBefore K (suc k) = λ k m. omega (arith, read-suc K k) in
         let q : turnAt K j ≡ t =
@@ -105,7 +105,7 @@ module _ {A : Type 0} (z : A) (src : List A) where
 
   -- its undoing: element i is written
   abbrev pub Undoing : List A → ℕ → Type 0
-  Undoing dst k = Filling z (λ j. getD src (placeOf (length src) j) z) (placeOf (length src)) (length src) dst k
+  Undoing dst k = Filling z (λ j. getD src (goesTo (length src) j) z) (goesTo (length src)) (length src) dst k
 
   pub undo : {dst : List A} {t k i : ℕ} → Undoing dst k → Reading (length src) t k i → i < length src → Undoing (set dst i (getD src k z)) (k + 1)
   undo {dst} {t} {k} {i} f r h =

@@ -16,17 +16,17 @@ abbrev pub readBefore : ℕ → ℕ → ℕ
 readBefore K t = heights 30 order K t
 
 -- of K elements, the one at k = 30 r + c goes to r + what is read before column c's turn
-unfoldable pub placeOf : ℕ → ℕ → ℕ
-placeOf K k = k / 30 + readBefore K (turnOf (k % 30))
+unfoldable pub goesTo : ℕ → ℕ → ℕ
+goesTo K k = k / 30 + readBefore K (turnOf (k % 30))
 
 -- the turn in which index j is read: the least t after which more than j are read
 unfoldable pub turnAt : ℕ → ℕ → ℕ
 turnAt K j = first (readBefore K) j 30 0
 
 -- and what stands there: the element of that turn's column in row j less what is read before
-unfoldable pub sourceOf : ℕ → ℕ → ℕ
-sourceOf K j = 30 * (j - readBefore K (turnAt K j)) + getD order (turnAt K j) 0
+unfoldable pub comesFrom : ℕ → ℕ → ℕ
+comesFrom K j = 30 * (j - readBefore K (turnAt K j)) + getD order (turnAt K j) 0
 
 -- undone: element k is the one that stands where step 8 puts k; z is read nowhere
 unfoldable pub secondUndone : {A : Type 0} → A → List A → List A
-secondUndone z ys = table (λ k. getD ys (placeOf (length ys) k) z) 0 (length ys)
+secondUndone z ys = table (λ k. getD ys (goesTo (length ys) k) z) 0 (length ys)

@@ -5,7 +5,7 @@ ghost use lib.Ieee.{nan};
 ghost use lib.ListN.{length};
 ghost use Rattle.sheet.specs.Counts.{mostBits};
 ghost use Rattle.interleaving.specs.Columns.{height};
-ghost use Rattle.interleaving.specs.Second.{secondInterleaved, secondUndone, sourceOf};
+ghost use Rattle.interleaving.specs.Second.{secondInterleaved, secondUndone, comesFrom};
 use crate::wide;
 
 // The columns are read in their order, each downwards.
@@ -57,7 +57,7 @@ fn height_of(n: u64, c: u64) -> u64
 // From where step 8 reads what stands at index j of n: the columns are passed in their order, up to the one that holds it.
 pub fn source_at(n: u64, j: u64) -> u64
     requires { ⌜ (j < n) × (n ≤ mostBits) ⌝ }
-    ensures { λ r. ⌜ (r ≡ sourceOf n j) × (r < n) ⌝ }
+    ensures { λ r. ⌜ (r ≡ comesFrom n j) × (r < n) ⌝ }
 {
     let order = orders::columns();
     let mut t: usize = 0;

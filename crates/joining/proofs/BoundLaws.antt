@@ -7,6 +7,7 @@ use native.Mathlib.Nat.{le-trans, le-of-eq, lt-of-lt-of-le, add-mul, mul-assoc, 
 use native.Mathlib.Omega.{arith}
 use lib.Dec.{T, lit≤, ltb, eqb, ltb→lt, eqb→eq}
 use lib.Pow.{shl-lt}
+use lib.IntN.{pos}
 use lib.ListN.{length}
 use lib.Ieee.{Float, nan, inf, fin, Format, binary32, prec, emax, low, up, down, odd, units, round, sum, add, neg, le}
 use lib.Ieee.Exact.{HasValue, round-exact}
@@ -16,7 +17,7 @@ use Rattle.laws.specs.FirstFail.{NoneFails}
 use Rattle.laws.proofs.FirstFailLaws.{none-first, none-rest}
 use Rattle.sheet.specs.Counts.{mostBits}
 use Rattle.joining.specs.Joining.{sumOf, joinOf, valueOf}
-use Rattle.joining.specs.Range.{inRange, lowest, highest}
+use Rattle.joining.specs.Range.{inRange}
 use Rattle.joining.specs.Whole.{Under}
 
 -- ---- a rounded value by its sign
@@ -161,12 +162,12 @@ range-under x t = go x (subst T (sym t) tt)
     go (fin false m e) t =
         unfold le in
         let h : m * up e * 1 ≤ 65536 * down e =
-        le-nat (m * up e * 1) (65536 * down e) true (and-r (le lowest (fin false m e)) (le (fin false m e) highest) t) in
+        le-nat (m * up e * 1) (65536 * down e) true (and-r (le (fin true 1 (pos 16)) (fin false m e)) (le (fin false m e) (fin false 1 (pos 16))) t) in
         omega arith
     go (fin true m e) t =
         unfold le in
         let h : m * up e * 1 ≤ 65536 * down e =
-        le-nat′ (65536 * down e) (m * up e * 1) true (and-l (le lowest (fin true m e)) (le (fin true m e) highest) t) in
+        le-nat′ (65536 * down e) (m * up e * 1) true (and-l (le (fin true 1 (pos 16)) (fin true m e)) (le (fin true m e) (fin false 1 (pos 16))) t) in
         omega arith
 
 fold-under : (xs : List Float) (a : Float) (k : ℕ) → Under a (k * 65536) → NoneFails inRange xs → k + length xs < 2 ^ 24

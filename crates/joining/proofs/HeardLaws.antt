@@ -25,7 +25,7 @@ use Rattle.joining.proofs.HomeLaws.{heard-shared}
 
 -- ---- the copies of one bit
 
-count-join : (xs : List Float) → countOf (joinOf xs) ≡ length xs
+pub count-join : (xs : List Float) → countOf (joinOf xs) ≡ length xs
 unfolding joinOf countOf
 count-join [] = refl
 count-join (x ∷ []) = refl

@@ -6,16 +6,9 @@ use lib.IntN.{pos}
 use lib.Ieee.{Float, fin, le}
 use Rattle.laws.specs.FirstFail.{firstFail}
 
--- 65,536 is 2^16
-abbrev pub highest : Float
-highest = fin false 1 (pos 16)
-
-abbrev pub lowest : Float
-lowest = fin true 1 (pos 16)
-
--- no comparison holds of a NaN
+-- 65,536 is 1 x 2^16; no comparison holds of a NaN
 abbrev pub inRange : Float → Bool
-inRange x = le lowest x && le x highest
+inRange x = le (fin true 1 (pos 16)) x && le x (fin false 1 (pos 16))
 
 -- the index of the first value out of range, and the length where there is none
 abbrev pub firstOut : List Float → ℕ

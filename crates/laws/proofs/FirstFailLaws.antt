@@ -2,7 +2,7 @@
 use mathlib.Core.Path.{_≡_, refl, ap, _∙_}
 use mathlib.Core.Bool.{Bool, true, false, cond, _&&_}
 use mathlib.Core.List.{List, [], _∷_}
-use Prim.Native.Nat.{ℕ, zero, suc, _+_, _<_}
+use Prim.Native.Nat.{ℕ, zero, suc, _+_, _≤_, _<_}
 use native.Mathlib.Numerals.{add-one}
 use native.Mathlib.Omega.{arith}
 use lib.Dec.{eqb, eqb·zero-suc, eqb·suc-suc}
@@ -31,6 +31,38 @@ module _ {A : Type 0} (ok : A → Bool) where
   pub fail-none : (xs : List A) (i : ℕ) → i ≡ length xs → firstFail ok xs ≡ i + firstFail ok (drop i xs) → i ≡ firstFail ok xs
   unfolding firstFail
   fail-none xs i l h = omega (arith, h, ap (λ (k : ℕ). firstFail ok (drop k xs)) l, ap (firstFail ok) (drop-length xs))
+
+  -- the first that fails is one of them, or none
+  pub fail-most : (xs : List A) → firstFail ok xs ≤ length xs
+  unfolding firstFail
+  fail-most [] = omega arith
+  fail-most (x ∷ xs) = by (ok x) (fail-most xs)
+    where
+      by : (b : Bool) → firstFail ok xs ≤ length xs → cond b (suc (firstFail ok xs)) 0 ≤ length (x ∷ xs)
+      by true l = omega arith
+      by false l = omega arith
+
+  -- it fails, and none before it does
+  fails-step : (d x : A) (xs : List A) (m : ℕ) (b : Bool) → ok x ≡ b → cond b (suc m) 0 < suc (length xs) → (m < length xs → ok (getD xs m d) ≡ false)
+      → ok (getD (x ∷ xs) (cond b (suc m) 0) d) ≡ false
+  fails-step d x xs m true e h k = k (omega arith)
+  fails-step d x xs m false e h k = e
+
+  pub fail-fails : (d : A) (xs : List A) → firstFail ok xs < length xs → ok (getD xs (firstFail ok xs) d) ≡ false
+  unfolding firstFail
+  fail-fails d [] h = absurd (omega arith)
+  fail-fails d (x ∷ xs) h = fails-step d x xs (firstFail ok xs) (ok x) refl h (fail-fails d xs)
+
+  passes-step : (d x : A) (xs : List A) (m : ℕ) (b : Bool) → ok x ≡ b → (j : ℕ) → j < cond b (suc m) 0 → ((i : ℕ) → i < m → ok (getD xs i d) ≡ true)
+      → ok (getD (x ∷ xs) j d) ≡ true
+  passes-step d x xs m true e zero h k = e
+  passes-step d x xs m true e (suc j) h k = k j (omega arith)
+  passes-step d x xs m false e j h k = absurd (omega arith)
+
+  pub fail-passes : (d : A) (xs : List A) (j : ℕ) → j < firstFail ok xs → ok (getD xs j d) ≡ true
+  unfolding firstFail
+  fail-passes d [] j h = absurd (omega arith)
+  fail-passes d (x ∷ xs) j h = passes-step d x xs (firstFail ok xs) (ok x) refl j h (fail-passes d xs)
 
   -- none fails: of a list that begins with x, and of a part of a list
   pub none-first : (x : A) (xs : List A) → NoneFails ok (x ∷ xs) → ok x ≡ true

@@ -1,6 +1,7 @@
 -- Laws of sums and of "one of them holds".
 use mathlib.Core.Path.{_≡_, refl, sym, ap, ap₂, _∙_}
-use mathlib.Core.Bool.{Bool, true, false, true≢false, _||_, or-true}
+use mathlib.Core.Logic.{⊎-elim}
+use mathlib.Core.Bool.{Bool, true, false, true≢false, false≢true, _||_, or-true}
 use Prim.Native.Nat.{ℕ, zero, suc, _+_, _-_, _*_, _≤_, _<_}
 use native.Mathlib.Nat.{zero-mul, suc-mul, add-zero, add-suc}
 use native.Mathlib.Numerals.{add-one}
@@ -8,6 +9,7 @@ use native.Mathlib.Omega.{arith}
 use native.Mathlib.Decide.{decLt, ℕ-discrete}
 use lib.Arith.{lt-of-le-ne}
 use Rattle.laws.specs.Sums.{sumTo, sumFrom, anyTo}
+use Rattle.laws.proofs.TestLaws.{or-sides}
 
 pub sum-more : (f : ℕ → ℕ) (i : ℕ) {a b : ℕ} → a ≡ sumTo f i → b ≡ f i → a + b ≡ sumTo f (i + 1)
 unfolding sumTo
@@ -130,3 +132,10 @@ any-each f n i h l = side (f i) refl
     side : (b : Bool) → f i ≡ b → f i ≡ false
     side false e = e
     side true e = absurd (true≢false (sym (any-hit f n i l e) ∙ h))
+
+-- where one holds, which
+pub any-in : (f : ℕ → Bool) (n : ℕ) → anyTo f n ≡ true → (i : ℕ) × (i < n) × (f i ≡ true)
+unfolding anyTo
+any-in f zero h = absurd (false≢true h)
+any-in f (suc n) h =
+    ⊎-elim (λ e. let a = any-in f n e in (a .0, omega (arith, a .1), a .2)) (λ e. (n, omega arith, e)) (or-sides (anyTo f n) (f n) h)

@@ -19,7 +19,8 @@ use Rattle.sheet.specs.Sizes.{framesOf, sizeOf, capacityAll}
 use Rattle.sheet.specs.Numbers.{readNumber}
 use Rattle.sheet.specs.declared.Sheet.{Sheet}
 use Rattle.matching.specs.Shares.{shareOf}
-use Rattle.listing.specs.Listing.{room, leastFrom, decimalOf, Lists, linesTo, headLine, withLine, refusal, listingOf, textOf, joined, channelsText, slotsText, capacityText, fText, eText, nText, vText, refusedText, endText}
+use Rattle.listing.specs.Listing.{room, leastFrom, decimalOf, Lists, linesTo, headLine, withLine, refusal, listingOf, textOf, followed}
+use Rattle.listing.specs.Ascii.{ascii}
 use Rattle.listing.specs.declared.Text.{Text}
 
 -- a text put behind a text
@@ -79,13 +80,13 @@ module _ (sh : Sheet) where
   pub line-made : (i : ℕ) (o out : List ℕ) (at : ℕ) (l : List ℕ) (f e n v : ℕ) → f ≡ framesOf sh i → e ≡ encodedOf sh i → n ≡ sizeOf sh i
       → v ≡ shareOf sh i
       → Lists o out at
-      (joined l (decimalOf (i + 1) ∷ fText ∷ decimalOf f ∷ eText ∷ decimalOf e ∷ nText ∷ decimalOf n ∷ vText ∷ decimalOf v ∷ endText ∷ []))
+      (followed l (decimalOf (i + 1) ∷ ascii " F " ∷ decimalOf f ∷ ascii " E " ∷ decimalOf e ∷ ascii " N " ∷ decimalOf n ∷ ascii " V " ∷ decimalOf v ∷ ascii "\n" ∷ []))
       → Lists o out at (withLine sh i l)
   unfolding withLine
   line-made i o out at l f e n v pf pe pn pv h = rw (pf, pe, pn, pv) at h
 
   pub head-made : (o out : List ℕ) (at c t d : ℕ) → c ≡ sh .channels → t ≡ sh .slots → d ≡ capacityAll sh
-      → Lists o out at (joined [] (channelsText ∷ decimalOf c ∷ slotsText ∷ decimalOf t ∷ capacityText ∷ decimalOf d ∷ endText ∷ []))
+      → Lists o out at (followed [] (ascii "channels " ∷ decimalOf c ∷ ascii " slots " ∷ decimalOf t ∷ ascii " capacity " ∷ decimalOf d ∷ ascii "\n" ∷ []))
       → Lists o out at (headLine sh)
   unfolding headLine
   head-made o out at c t d pc pt pd h = rw (pc, pt, pd) at h
@@ -94,7 +95,7 @@ module _ (sh : Sheet) where
   unfolding linesTo
   lines-more i = rw (add-one i)
 
-pub refusal-made : (n : ℕ) (o out : List ℕ) (at : ℕ) → Lists o out at (joined [] (refusedText ∷ decimalOf n ∷ endText ∷ [])) → Lists o out at (refusal n)
+pub refusal-made : (n : ℕ) (o out : List ℕ) (at : ℕ) → Lists o out at (followed [] (ascii "refused " ∷ decimalOf n ∷ ascii "\n" ∷ [])) → Lists o out at (refusal n)
 unfolding refusal
 refusal-made n o out at h = h
 

@@ -1,9 +1,7 @@
--- The listing is unique: two texts that both meet the contract of `list_sheet` are the same.
-use mathlib.Core.Path.{_≡_, sym, _∙_}
-use mathlib.Core.List.{List}
-use Prim.Native.Nat.{ℕ}
-use Rattle.listing.specs.Listing.{listingOf, textOf}
-use Rattle.listing.specs.declared.Text.{Text}
+-- The listing is promised: the contract of `list_sheet`, as the toolchain reads it out of the code, takes all inputs and determines the text.
+use Rattle.counters.specs.Promised.{Promised}
+use Rattle.counters.proofs.PromiseLaws.{alone}
+use Rattle.listing.proofs.list_sheet as ListSheet
 
-pub list-sheet : (bytes : List ℕ) (x y : Text) → x ≡ textOf (listingOf bytes) → y ≡ textOf (listingOf bytes) → x ≡ y
-list-sheet bytes x y p q = p ∙ sym q
+pub list-sheet : Promised ListSheet.ended ListSheet.Reads.Asked ListSheet.Reads.Learnt
+list-sheet = record { takes-all = λ κs inputs. tt; one-answer = λ κs inputs x y v w p q. alone (p .0) (q .0) }

@@ -10,9 +10,10 @@ use Rattle.laws.specs.Laid.{Laid}
 use Rattle.counters.specs.Lines.{given}
 use Rattle.sheet.specs.Fields.{sheetOf, encodedOf}
 use Rattle.sheet.specs.Sizes.{framesOf, sizeOf, capacityAll}
-use Rattle.sheet.specs.Numbers.{readNumber}
+use Rattle.sheet.specs.Numbers.{readAnswer}
 use Rattle.sheet.specs.declared.Sheet.{Sheet}
 use Rattle.matching.specs.Shares.{shareOf}
+use Rattle.listing.specs.Ascii.{ascii}
 use Rattle.listing.specs.declared.Text.{Text}
 
 -- the bytes that a listing has room for
@@ -29,54 +30,26 @@ unfoldable pub decimalOf : ℕ → List ℕ
 decimalOf n = digits 10 (leastFrom 20 1 n) n
 
 -- a list, and then each of some
-abbrev pub joined : List ℕ → List (List ℕ) → List ℕ
-joined l [] = l
-joined l (t ∷ ts) = joined (l ++ t) ts
-
--- `channels `, ` slots `, ` capacity `, ` F `, ` E `, ` N `, ` V `, `refused `, and the end of a line
-abbrev pub channelsText : List ℕ
-channelsText = 99 ∷ 104 ∷ 97 ∷ 110 ∷ 110 ∷ 101 ∷ 108 ∷ 115 ∷ 32 ∷ []
-
-abbrev pub slotsText : List ℕ
-slotsText = 32 ∷ 115 ∷ 108 ∷ 111 ∷ 116 ∷ 115 ∷ 32 ∷ []
-
-abbrev pub capacityText : List ℕ
-capacityText = 32 ∷ 99 ∷ 97 ∷ 112 ∷ 97 ∷ 99 ∷ 105 ∷ 116 ∷ 121 ∷ 32 ∷ []
-
-abbrev pub fText : List ℕ
-fText = 32 ∷ 70 ∷ 32 ∷ []
-
-abbrev pub eText : List ℕ
-eText = 32 ∷ 69 ∷ 32 ∷ []
-
-abbrev pub nText : List ℕ
-nText = 32 ∷ 78 ∷ 32 ∷ []
-
-abbrev pub vText : List ℕ
-vText = 32 ∷ 86 ∷ 32 ∷ []
-
-abbrev pub refusedText : List ℕ
-refusedText = 114 ∷ 101 ∷ 102 ∷ 117 ∷ 115 ∷ 101 ∷ 100 ∷ 32 ∷ []
-
-abbrev pub endText : List ℕ
-endText = 10 ∷ []
+abbrev pub followed : List ℕ → List (List ℕ) → List ℕ
+followed l [] = l
+followed l (t ∷ ts) = followed (l ++ t) ts
 
 -- channels I slots T capacity D
 unfoldable pub headLine : Sheet → List ℕ
 headLine sh =
-    joined []
-    (channelsText ∷ decimalOf (sh .channels) ∷ slotsText ∷ decimalOf (sh .slots) ∷ capacityText ∷ decimalOf (capacityAll sh) ∷ endText ∷ [])
+    followed []
+    (ascii "channels " ∷ decimalOf (sh .channels) ∷ ascii " slots " ∷ decimalOf (sh .slots) ∷ ascii " capacity " ∷ decimalOf (capacityAll sh) ∷ ascii "\n" ∷ [])
 
 -- a text, and then the line of channel i, counted from 0: its number, F, E, N, V
 unfoldable pub withLine : Sheet → ℕ → List ℕ → List ℕ
 withLine sh i l =
-    joined l
+    followed l
     (decimalOf (i + 1) ∷
-    fText ∷ decimalOf (framesOf sh i) ∷
-    eText ∷ decimalOf (encodedOf sh i) ∷
-    nText ∷ decimalOf (sizeOf sh i) ∷
-    vText ∷ decimalOf (shareOf sh i) ∷
-    endText ∷ [])
+    ascii " F " ∷ decimalOf (framesOf sh i) ∷
+    ascii " E " ∷ decimalOf (encodedOf sh i) ∷
+    ascii " N " ∷ decimalOf (sizeOf sh i) ∷
+    ascii " V " ∷ decimalOf (shareOf sh i) ∷
+    ascii "\n" ∷ [])
 
 -- the first line and those of the first i channels
 unfoldable pub linesTo : Sheet → ℕ → List ℕ
@@ -85,11 +58,11 @@ linesTo sh (suc i) = withLine sh i (linesTo sh i)
 
 -- refused N
 unfoldable pub refusal : ℕ → List ℕ
-refusal n = joined [] (refusedText ∷ decimalOf n ∷ endText ∷ [])
+refusal n = followed [] (ascii "refused " ∷ decimalOf n ∷ ascii "\n" ∷ [])
 
 -- the listing of a sheet's bytes
 unfoldable pub listingOf : List ℕ → List ℕ
-listingOf s = given (readNumber s) (linesTo (sheetOf s) (sheetOf s .channels)) (refusal (readNumber s))
+listingOf s = given (readAnswer s .number) (linesTo (sheetOf s) (sheetOf s .channels)) (refusal (readAnswer s .number))
 
 -- a text in an array, zeros past it
 unfoldable pub textOf : List ℕ → Text

@@ -2,7 +2,7 @@
 use mathlib.Core.Path.{_≡_, refl, sym, ap, ap₂, _∙_, subst}
 use mathlib.Core.Bool.{Bool, true, false, not, _||_, cond}
 use mathlib.Core.List.{List, [], _∷_, _++_}
-use Prim.Native.Nat.{ℕ, zero, suc, _-_, _≤_, _<_}
+use Prim.Native.Nat.{ℕ, _-_, _≤_, _<_}
 use native.Mathlib.Omega.{arith}
 use borrow.Author.Tests.{eq-eqb, ne-eqb, lt-ltb, le-ltb, eqb-true, eqb-false, ltb-false, not-false}
 use lib.Dec.{eqb, ltb, lit<}
@@ -36,29 +36,23 @@ module _ (s : List ℕ) (frame : ℕ) (a : OpenAnswer) (e : a ≡ openAnswer s) 
         opened = λ q. absurd (z q);
       }
 
-  pub begun-late : a .number ≡ 0 → lastFrame < frame → Begun s (frameLines s frame) (record { number = 9; opened = a .opened })
+  pub begun-late : a .number ≡ 0 → ltb lastFrame frame ≡ true → Begun s (frameLines s frame) (record { number = 9; opened = a .opened })
   begun-late z h =
       record {
-        number = last-holds (ltb lastFrame frame) 9 (read-numbered s) (sym (number-open s a e) ∙ z) (lt-ltb lastFrame frame h);
+        number = last-holds (ltb lastFrame frame) 9 (read-numbered s) (sym (number-open s a e) ∙ z) h;
         opened = λ q. absurd (omega arith);
       }
 
-  pub begun-yes : a .number ≡ 0 → frame ≤ lastFrame → Begun s (frameLines s frame) (record { number = a .number; opened = a .opened })
+  pub begun-yes : a .number ≡ 0 → ltb lastFrame frame ≡ false → Begun s (frameLines s frame) (record { number = a .number; opened = a .opened })
   begun-yes z h =
       record {
-        number = z ∙ last-clear (ltb lastFrame frame) 9 (read-numbered s) (sym (number-open s a e) ∙ z) (le-ltb lastFrame frame h);
+        number = z ∙ last-clear (ltb lastFrame frame) 9 (read-numbered s) (sym (number-open s a e) ∙ z) h;
         opened = opened-is s a e;
       }
 
 -- ---- a channel by its number
 
--- TrCH k is there, or is not
-pub trch-zero : (sh : Sheet) (k : ℕ) → k ≡ 0 → true ≡ noTrch sh k
-trch-zero sh k e = sym (ap (λ (b : Bool). b || ltb (sh .channels) k) (eq-eqb k 0 e))
-
-pub trch-past : (sh : Sheet) (k : ℕ) {x : ℕ} → x ≡ sh .channels → (k ≡ 0 → ⊥) → ltb x k ≡ noTrch sh k
-trch-past sh k e z = ap (λ (y : ℕ). ltb y k) e ∙ sym (ap (λ (b : Bool). b || ltb (sh .channels) k) (ne-eqb k 0 z))
-
+-- TrCH k is there
 pub trch-there : (sh : Sheet) (k : ℕ) → noTrch sh k ≡ false → (0 < k) × (k - 1 < sh .channels)
 trch-there sh k h =
     let a : k ≡ 0 → ⊥ = eqb-false k 0 (or-left _ (ltb (sh .channels) k) h) in

@@ -11,7 +11,6 @@ use joining::checking::first_out;
 use opening::OpenAnswer;
 use opening::open_sheet;
 use sheet::Sheet;
-use sheet::wide;
 
 pub const LAST_FRAME: u32 = 255;
 
@@ -23,7 +22,7 @@ pub fn open_frame(bytes: &[u8], frame: FrameNumber) -> OpenAnswer
     let number = answer.number;
     let opened = answer.opened;
     if number == 0 {
-        if frame.0 > LAST_FRAME {
+        if frame.is_over(LAST_FRAME) {
             return OpenAnswer { number: 9, opened };
         }
     }
@@ -34,10 +33,7 @@ pub fn open_frame(bytes: &[u8], frame: FrameNumber) -> OpenAnswer
 pub fn absent(fields: Sheet, trch: TrchNumber) -> bool
     ensures { λ r. ⌜ r ≡ noTrch fields (trch .0) ⌝ }
 {
-    if trch.0 == 0 {
-        return true;
-    }
-    wide(fields.channels) < trch.0 as u64
+    !trch.is_among(fields.channels)
 }
 
 // Numbers 11 and 12: `needed` bits are lent, `room` places in a buffer of n.

@@ -6,7 +6,7 @@ use native.Mathlib.Nat.{div-one}
 use native.Mathlib.Omega.{arith}
 use Rattle.laws.specs.Sums.{sumTo, sumFrom}
 use Rattle.laws.proofs.SumLaws.{sum-same, sum-less, sum-tight, sum-zeros}
-use Rattle.mapping.specs.Mapping.{taker, after, place, before, phchOf, rankOf, placeOf, afterTurns, numberOf, ones}
+use Rattle.mapping.specs.Mapping.{taker, afterBit, place, before, phchOf, rankOf, placeOf, afterTurns, numberOf, ones}
 use Rattle.mapping.proofs.PlaceLaws.{place-within, place-apart, placed}
 use Rattle.mapping.proofs.LoopLaws.{Round, round-start, round-fits, passes, numbered, stepped, more-sum, more-cases}
 
@@ -43,7 +43,7 @@ module _ (U B : ℕ → ℕ) (P : ℕ) (run : (q : ℕ) → q < P → 0 < B q) w
       record { round = v .0; inv = v .1; room = v .2; number = numbered U B P run (v .0) (taker U P t) (t .fb) (v .1) (v .2) ∙ b .count }
 
   onto : (k : ℕ) → Before k → Takes k → Before (suc k)
-  unfolding before after
+  unfolding before afterBit
   onto k b t =
       let z = stepped U B P run (t .round) (phchOf U B P k) (before U B P k .fb) (t .inv) (t .room) in
       record {

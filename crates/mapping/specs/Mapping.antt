@@ -43,8 +43,8 @@ taker U P t = passed U P (t .fb) P (t .p)
 abbrev pub had : (ℕ → ℕ) → ℕ → Turn → ℕ
 had U P t = t .fb (taker U P t)
 
-unfoldable pub after : (ℕ → ℕ) → (ℕ → ℕ) → ℕ → Turn → Turn
-after U B P t = record { p = onward B P (taker U P t) (suc (had U P t)); fb = oneMore (t .fb) (taker U P t) }
+unfoldable pub afterBit : (ℕ → ℕ) → (ℕ → ℕ) → ℕ → Turn → Turn
+afterBit U B P t = record { p = onward B P (taker U P t) (suc (had U P t)); fb = oneMore (t .fb) (taker U P t) }
 
 -- pos, counted from 1, of the next bit of a PhCH of u places that has x bits: if (p mod 2) == 0, U - fb, and otherwise fb + 1
 unfoldable pub posOf : ℕ → ℕ → ℕ → ℕ
@@ -57,7 +57,7 @@ place U p x = sumTo U p + (posOf (U p) (p + 1) x - 1)
 -- for k: each bit in turn is put where it goes, over what stood in the slot w
 unfoldable pub run : {A : Type 0} → (ℕ → ℕ) → (ℕ → ℕ) → ℕ → List A → Turn → List A → List A
 run U B P [] t w = w
-run U B P (b ∷ bits) t w = run U B P bits (after U B P t) (set w (place U (taker U P t) (had U P t)) b)
+run U B P (b ∷ bits) t w = run U B P bits (afterBit U B P t) (set w (place U (taker U P t) (had U P t)) b)
 
 -- the slot that the loop makes of bits, over the slot w
 unfoldable pub mapped : {A : Type 0} → (ℕ → ℕ) → (ℕ → ℕ) → ℕ → List A → List A → List A
@@ -66,7 +66,7 @@ mapped U B P bits w = run U B P bits start w
 -- the loop's variables before bit k; the PhCH that bit k goes to, as which of its bits, and the place
 unfoldable pub before : (ℕ → ℕ) → (ℕ → ℕ) → ℕ → ℕ → Turn
 before U B P zero = start
-before U B P (suc k) = after U B P (before U B P k)
+before U B P (suc k) = afterBit U B P (before U B P k)
 
 abbrev pub phchOf : (ℕ → ℕ) → (ℕ → ℕ) → ℕ → ℕ → ℕ
 phchOf U B P k = taker U P (before U B P k)
@@ -106,8 +106,8 @@ slotSize caps = sumTo (at caps) (length caps)
 abbrev pub slotOf : {A : Type 0} → List ℕ → List A → List A → List A
 slotOf caps bits w = mapped (at caps) ones (length caps) bits w
 
-abbrev pub bitsOf : {A : Type 0} → List ℕ → A → List A → List A
-bitsOf caps d w = unmapped (at caps) ones (length caps) d w
+abbrev pub slotUndone : {A : Type 0} → List ℕ → A → List A → List A
+slotUndone caps d w = unmapped (at caps) ones (length caps) d w
 
 -- as many bits, n, and as many places, m, as the capacities add up to
 pub record Slot (caps : List ℕ) (n m : ℕ) : Type 0 where

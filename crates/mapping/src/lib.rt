@@ -5,7 +5,7 @@ ghost use mathlib.Core.Path.{_≡_};
 ghost use Prim.Native.Nat.{min, _+_, _-_, _≤_, _<_};
 ghost use lib.ListN.{length};
 ghost use lib.Ieee.{nan};
-ghost use Rattle.mapping.specs.Mapping.{posOf, numberOf, filledAs, ones, at, slotOf, bitsOf, Slot};
+ghost use Rattle.mapping.specs.Mapping.{posOf, numberOf, filledAs, ones, at, slotOf, slotUndone, Slot};
 ghost use Rattle.mapping.specs.Strides.{turns, Reached, Steps, Least, Done, Ready};
 
 fn lesser(a: usize, b: usize) -> usize
@@ -176,7 +176,7 @@ pub fn map_slot(bits: &[u8], caps: &[u16], frame: &mut [u8])
 // Takes the soft values of a slot back into the order of its bits.
 pub fn unmap_slot(frame: &[f32], caps: &[u16], bits: &mut [f32])
     requires { ⌜ Slot (now caps) (length (now bits)) (length (now frame)) ⌝ }
-    ensures { λ _. ⌜ now (bits .exit) ≡ bitsOf (now (caps .entry)) nan (now (frame .entry)) ⌝ }
+    ensures { λ _. ⌜ now (bits .exit) ≡ slotUndone (now (caps .entry)) nan (now (frame .entry)) ⌝ }
 {
     let low = least(caps);
     let mut p: usize = 0;

@@ -2,6 +2,7 @@
 use mathlib.Core.List.{List}
 use Prim.Native.Nat.{ℕ, _+_, _*_, _-_, _/_}
 use lib.IntN.{ℤ, pos, _-ℤ_}
+use lib.ListN.{take, drop}
 use Rattle.laws.specs.Sums.{sumTo}
 use Rattle.laws.specs.Least.{first}
 use Rattle.laws.specs.Tables.{table, upTo}
@@ -38,6 +39,10 @@ changeOf sh i = pos (shareOf sh i) -ℤ pos (sizeOf sh i)
 -- step 7: the V_i bits of channels 1 to I stand in order, so index x lies in the channel that is the least with its Z above x
 unfoldable pub channelOf : Sheet → ℕ → ℕ
 channelOf sh x = first (cutOf sh) x (sh .channels) 0
+
+-- and channel i has the V_i from its Z on of a multiplexed frame of anything
+abbrev pub channelPart : {A : Type 0} → Sheet → ℕ → List A → List A
+channelPart sh i xs = take (shareOf sh i) (drop (cutOf sh i) xs)
 
 -- Z_0 to Z_I, 0 past them
 unfoldable pub cutsOf : Sheet → List ℕ

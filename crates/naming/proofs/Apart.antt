@@ -81,12 +81,12 @@ module _ (sh : Sheet) (ok : Accepted sh) (frame : ℕ) where
 
 -- ---- step 8
 
-source-apart : (K i j : ℕ) → i < K → j < K → Second.sourceOf K i ≡ Second.sourceOf K j → i ≡ j
-source-apart K i j h k e = sym (place-source K i h) ∙ ap (Second.placeOf K) e ∙ place-source K j k
+source-apart : (K i j : ℕ) → i < K → j < K → Second.comesFrom K i ≡ Second.comesFrom K j → i ≡ j
+source-apart K i j h k e = sym (place-source K i h) ∙ ap (Second.goesTo K) e ∙ place-source K j k
 
 abbrev readBy : Sheet → Bool → ℕ → ℕ → ℕ
 readBy sh m t k =
-    cond m (Second.sourceOf (capacityAll sh) (slotStart sh t + k)) (slotStart sh t + Second.sourceOf (slotCapacity sh t) k)
+    cond m (Second.comesFrom (capacityAll sh) (slotStart sh t + k)) (slotStart sh t + Second.comesFrom (slotCapacity sh t) k)
 
 module _ (sh : Sheet) (s t a b : ℕ) (ls : s < sh .slots) (lt : t < sh .slots) (h : a < slotCapacity sh s) (k : b < slotCapacity sh t) where
   read-apart : readFrom sh s a ≡ readFrom sh t b → (s ≡ t) × (a ≡ b)
@@ -99,11 +99,11 @@ module _ (sh : Sheet) (s t a b : ℕ) (ls : s < sh .slots) (lt : t < sh .slots) 
           (source-apart (capacityAll sh) (slotStart sh s + a) (slotStart sh t + b) (omega (arith, slot-room sh s ls)) (omega (arith, slot-room sh t lt)) e)
       by false e =
           let w =
-          parts-apart (slotCapacity sh) s t (Second.sourceOf (slotCapacity sh s) a) (Second.sourceOf (slotCapacity sh t) b) (source-below (slotCapacity sh s) a h)
+          parts-apart (slotCapacity sh) s t (Second.comesFrom (slotCapacity sh s) a) (Second.comesFrom (slotCapacity sh t) b) (source-below (slotCapacity sh s) a h)
           (source-below (slotCapacity sh t) b k) e in
           let q : slotCapacity sh t ≡ slotCapacity sh s = ap (slotCapacity sh) (sym (w .0)) in (
             w .0,
-            source-apart (slotCapacity sh s) a b h (omega arith) (w .1 ∙ ap (λ (n : ℕ). Second.sourceOf n b) q),
+            source-apart (slotCapacity sh s) a b h (omega arith) (w .1 ∙ ap (λ (n : ℕ). Second.comesFrom n b) q),
           )
 
 -- ---- step 9

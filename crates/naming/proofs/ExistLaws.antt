@@ -1,31 +1,13 @@
 -- The test of a place is true exactly where the place exists.
-use mathlib.Core.Path.{_≡_, refl, sym, ap, _∙_}
+use mathlib.Core.Path.{_≡_, sym, ap, _∙_}
 use mathlib.Core.Logic.{_↔_}
-use mathlib.Core.Bool.{Bool, true, false, false≢true, _&&_}
-use Prim.Native.Nat.{ℕ, _-_, _≤_, _<_}
-use native.Mathlib.Omega.{arith}
-use borrow.Author.Tests.{lt-ltb, le-ltb, ltb-true, le-leb, leb-true}
-use lib.Dec.{ltb, leb}
+use mathlib.Core.Bool.{Bool, true, false, _&&_}
+use Prim.Native.Nat.{ℕ, _-_}
+use Rattle.counters.specs.Counting.{among}
+use Rattle.counters.proofs.CountLaws.{both-true, among-true, true-among}
 use Rattle.sheet.specs.Fields.{phchsOf, capacityOf}
 use Rattle.sheet.specs.declared.Sheet.{Sheet}
-use Rattle.naming.specs.Name.{among, hasPlace, Exists}
-
-both-true : (a b : Bool) → (a && b) ≡ true → (a ≡ true) × (b ≡ true)
-both-true true b h = (refl, h)
-both-true false b h = absurd (false≢true h)
-
--- one of 1 to n
-pub among-none : (k n : ℕ) → k ≡ 0 → false ≡ among k n
-among-none k n z = ap (λ (b : Bool). b && leb k n) (sym (le-ltb 0 k (omega arith)))
-
-pub among-some : (k n : ℕ) → (k ≡ 0 → ⊥) → leb k n ≡ among k n
-among-some k n z = ap (λ (b : Bool). b && leb k n) (sym (lt-ltb 0 k (omega arith)))
-
-pub among-true : (k n : ℕ) → among k n ≡ true → (0 < k) × (k ≤ n)
-among-true k n h = let t = both-true (ltb 0 k) (leb k n) h in (ltb-true 0 k (t .0), leb-true k n (t .1))
-
-true-among : (k n : ℕ) → 0 < k → k ≤ n → among k n ≡ true
-true-among k n h l = ap (λ (b : Bool). b && leb k n) (lt-ltb 0 k h) ∙ le-leb k n l
+use Rattle.naming.specs.Name.{hasPlace, Exists}
 
 -- the test, as far as it goes
 module _ (sh : Sheet) (slot phch place : ℕ) where

@@ -13,7 +13,7 @@ use Rattle.sheet.specs.declared.Sheet.{Sheet}
 use Rattle.opening.proofs.OpenLaws.{accepted-in}
 use Rattle.frame.specs.Frame.{multiplexed, frameOf}
 use Rattle.frame.proofs.FrameLaws.{length-multiplexed}
-use Rattle.naming.specs.Name.{Name, Label, labelAt, labels, named, labelFrame, indexOf, multiplexedAt, nameOf, Exists, Inside}
+use Rattle.naming.specs.Name.{Name, Label, labelAt, labels, copyNamed, labelFrame, indexOf, multiplexedAt, nameOf, Exists, Inside}
 use Rattle.naming.proofs.Multiplexed.{multiplexed-at, name-inside}
 use Rattle.naming.proofs.Slots.{index-below, placed-at}
 
@@ -40,14 +40,14 @@ unfolding labels
 labels-full sh i l = table-length (labelAt i) 0 (equalisedOf sh i)
 
 -- the name of an existing bit, from its label
-label-named : (sh : Sheet) (n : Name) → Inside sh n → (z : Label) → named (getD (labels sh (n .channel - 1)) (n .bit - 1) z) (n .copy) ≡ n
+label-named : (sh : Sheet) (n : Name) → Inside sh n → (z : Label) → copyNamed (getD (labels sh (n .channel - 1)) (n .bit - 1) z) (n .copy) ≡ n
 unfolding labels
 label-named sh n s z =
     let qc : suc (n .channel - 1) ≡ n .channel = omega (arith, s .channel-from) in
     let qb : suc (n .bit - 1) ≡ n .bit = omega (arith, s .bit-from) in
-    ap (λ (l : Label). named l (n .copy))
+    ap (λ (l : Label). copyNamed l (n .copy))
     (table-get (labelAt (n .channel - 1)) (equalisedOf sh (n .channel - 1)) (n .bit - 1) z (omega (arith, s .bit-from, s .bit-to)))
-    ∙ ap₂ (λ (c b : ℕ). named (record { channel = c; bit = b }) (n .copy)) qc qb
+    ∙ ap₂ (λ (c b : ℕ). copyNamed (record { channel = c; bit = b }) (n .copy)) qc qb
 
 -- S5
 pub names : (sh : Sheet) → Accepted sh → (frame slot phch place : ℕ) → Exists sh slot phch place → (d : Name)
@@ -55,7 +55,7 @@ pub names : (sh : Sheet) → Accepted sh → (frame slot phch place : ℕ) → E
 unfolding labelFrame
 names sh ok frame slot phch place there d =
     let z : Label = record { channel = 0; bit = 0 } in
-    stands sh ok frame slot phch place there named (labels sh) (labels-full sh) d z
+    stands sh ok frame slot phch place there copyNamed (labels sh) (labels-full sh) d z
     ∙ label-named sh (nameOf sh frame slot phch place) (named-inside sh ok frame slot phch place there) z
 
 -- of the bytes of any accepted sheet

@@ -21,7 +21,7 @@ use Rattle.pattern.proofs.SourceLaws.{source-kept, Kept, kept}
 use Rattle.opening.proofs.OpenLaws.{weighs}
 use Rattle.frame.specs.Frame.{startAt, frameOf}
 use Rattle.frame.proofs.FrameLaws.{rates, cut-next, length-frame}
-use Rattle.naming.specs.Name.{Name, named, labels, labelFrame, indexOf, multiplexedAt, bitNumber, nameAt, nameOf, bitName, NamedBy}
+use Rattle.naming.specs.Name.{Name, copyNamed, labels, labelFrame, indexOf, multiplexedAt, bitNumber, nameAt, nameOf, bitName, NamedBy}
 use Rattle.naming.proofs.Multiplexed.{lies}
 use Rattle.naming.proofs.Slots.{index-below}
 use Rattle.naming.proofs.Named.{stands, labels-full, names}
@@ -128,7 +128,7 @@ module _ (sh : Sheet) (ok : Accepted sh) (frame : ℕ) where
       let o : Name = record { channel = 0; bit = 0; copy = 0 } in
       let len = length-frame f sh ok frame ts full in
       ext-getD (v o) (frameOf f sh frame ts) (map v (labelFrame sh frame))
-      (len ∙ sym (length-map (labelFrame sh frame) v ∙ length-frame named sh ok frame (labels sh) (labels-full sh)))
+      (len ∙ sym (length-map (labelFrame sh frame) v ∙ length-frame copyNamed sh ok frame (labels sh) (labels-full sh)))
       (λ x h.
       let a = index-onto sh x (omega arith) in
       ap (λ (i : ℕ). getD (frameOf f sh frame ts) i (v o)) (sym (a .index))

@@ -6,17 +6,20 @@ use native.Mathlib.Omega.{arith}
 use lib.Dec.{eqb}
 use Rattle.laws.specs.Sums.{sumTo}
 use Rattle.laws.specs.Least.{first}
+use Rattle.laws.proofs.SumLaws.{sum-within}
 use Rattle.laws.proofs.LeastLaws.{first-passes}
 use Rattle.sheet.specs.Fields.{phchsOf, capacityOf}
 use Rattle.sheet.specs.Sizes.{slotCapacity, capacityAll}
 use Rattle.sheet.specs.declared.Sheet.{Sheet}
-use Rattle.interleaving.specs.Second.{placeOf, sourceOf}
+use Rattle.interleaving.specs.Second.{goesTo, comesFrom}
 use Rattle.interleaving.proofs.SecondLaws.{place-below, source-place}
 use Rattle.mapping.specs.Mapping.{phchOf, rankOf, posOf, numberOf, ones}
 use Rattle.mapping.proofs.PlaceLaws.{pos-in, filled-pos}
 use Rattle.mapping.proofs.TurnLaws.{bit-goes}
 use Rattle.frame.specs.Frame.{slotStart}
+use Rattle.frame.proofs.FrameLaws.{slot-room}
 use Rattle.naming.specs.Name.{indexOf, slotBitAt, readFrom, multiplexedAt, Exists}
+use Rattle.naming.proofs.Slots.{slot-in, phch-in}
 
 -- the term of a sum into which a number falls
 record Falls (f : ℕ → ℕ) (n j : ℕ) : Type 0 where
@@ -38,11 +41,11 @@ record Reads (sh : Sheet) (b : Bool) (x : ℕ) : Type 0 where
   bit : ℕ
   inside : slot < sh .slots
   below : bit < slotCapacity sh slot
-  read : cond b (sourceOf (capacityAll sh) (slotStart sh slot + bit)) (slotStart sh slot + sourceOf (slotCapacity sh slot) bit) ≡ x
+  read : cond b (comesFrom (capacityAll sh) (slotStart sh slot + bit)) (slotStart sh slot + comesFrom (slotCapacity sh slot) bit) ≡ x
 
 reads : (sh : Sheet) (b : Bool) (x : ℕ) → x < capacityAll sh → Reads sh b x
 reads sh true x h =
-    let j = placeOf (capacityAll sh) x in
+    let j = goesTo (capacityAll sh) x in
     let t = falls (slotCapacity sh) (sh .slots) j (place-below (capacityAll sh) x h) in
     let e : slotStart sh (t .at) + (j - slotStart sh (t .at)) ≡ j = omega (arith, t .from) in
     record {
@@ -50,7 +53,7 @@ reads sh true x h =
       bit = j - slotStart sh (t .at);
       inside = t .inside;
       below = t .below;
-      read = ap (sourceOf (capacityAll sh)) e ∙ source-place (capacityAll sh) x h;
+      read = ap (comesFrom (capacityAll sh)) e ∙ source-place (capacityAll sh) x h;
     }
 reads sh false x h =
     let t = falls (slotCapacity sh) (sh .slots) x h in
@@ -58,7 +61,7 @@ reads sh false x h =
     let u = x - slotStart sh (t .at) in
     record {
       slot = t .at;
-      bit = placeOf K u;
+      bit = goesTo K u;
       inside = t .inside;
       below = place-below K u (t .below);
       read = omega (arith, source-place K u (t .below), t .from);
@@ -140,3 +143,15 @@ index-onto sh x h =
       there = existing sh t p (suc (u - sumTo U p)) (s .inside) (z .inside) (omega arith) (z .below);
       index = rw (qt, qp) (omega (arith, s .from, z .from));
     }
+
+-- and every place stands at an index of the frame
+pub index-inside : (sh : Sheet) (slot phch place : ℕ) → Exists sh slot phch place → indexOf sh slot phch place < capacityAll sh
+unfolding indexOf
+index-inside sh slot phch place w =
+    omega (
+      arith,
+      slot-room sh (slot - 1) (slot-in sh slot phch place w),
+      sum-within (capacityOf sh (slot - 1)) (phch - 1) _ (phch-in sh slot phch place w),
+      w .place-from,
+      w .place-to,
+    )

@@ -14,7 +14,7 @@ use Rattle.sheet.specs.Sizes.{slotCapacity, capacityAll}
 use Rattle.sheet.specs.Numbers.{slotLoad, wholeLoad}
 use Rattle.sheet.specs.Range.{Accepted}
 use Rattle.sheet.specs.declared.Sheet.{Sheet}
-use Rattle.interleaving.specs.Second.{sourceOf}
+use Rattle.interleaving.specs.Second.{comesFrom}
 use Rattle.mapping.specs.Mapping.{numberOf, filledAs, ones, at}
 use Rattle.opening.proofs.OpenLaws.{capacity-most}
 use Rattle.frame.specs.Frame.{capsOf, slotStart}
@@ -82,17 +82,17 @@ module _ (sh : Sheet) (ok : Accepted sh) (t : ℕ) (l : t < sh .slots) {phchs ca
 
 -- step 8, by the mode
 module _ (sh : Sheet) (t k : ℕ) where
-  pub read-over : {K j r : ℕ} → sh .mode ≡ 0 → K ≡ capacityAll sh → j ≡ slotStart sh t + k → r ≡ sourceOf K j → r ≡ readFrom sh t k
+  pub read-over : {K j r : ℕ} → sh .mode ≡ 0 → K ≡ capacityAll sh → j ≡ slotStart sh t + k → r ≡ comesFrom K j → r ≡ readFrom sh t k
   unfolding readFrom
   read-over z p q e =
       e
-      ∙ ap₂ sourceOf p q
+      ∙ ap₂ comesFrom p q
       ∙ sym
-      (ap (λ (b : Bool). cond b (sourceOf (capacityAll sh) (slotStart sh t + k)) (slotStart sh t + sourceOf (slotCapacity sh t) k)) (eq-eqb (sh .mode) 0 z))
+      (ap (λ (b : Bool). cond b (comesFrom (capacityAll sh) (slotStart sh t + k)) (slotStart sh t + comesFrom (slotCapacity sh t) k)) (eq-eqb (sh .mode) 0 z))
 
-  pub read-each : {s K r : ℕ} → (sh .mode ≡ 0 → ⊥) → s ≡ slotStart sh t → K ≡ slotCapacity sh t → r ≡ sourceOf K k → s + r ≡ readFrom sh t k
+  pub read-each : {s K r : ℕ} → (sh .mode ≡ 0 → ⊥) → s ≡ slotStart sh t → K ≡ slotCapacity sh t → r ≡ comesFrom K k → s + r ≡ readFrom sh t k
   unfolding readFrom
   read-each z p q e =
-      ap₂ _+_ p (e ∙ ap (λ (n : ℕ). sourceOf n k) q)
+      ap₂ _+_ p (e ∙ ap (λ (n : ℕ). comesFrom n k) q)
       ∙ sym
-      (ap (λ (b : Bool). cond b (sourceOf (capacityAll sh) (slotStart sh t + k)) (slotStart sh t + sourceOf (slotCapacity sh t) k)) (ne-eqb (sh .mode) 0 z))
+      (ap (λ (b : Bool). cond b (comesFrom (capacityAll sh) (slotStart sh t + k)) (slotStart sh t + comesFrom (slotCapacity sh t) k)) (ne-eqb (sh .mode) 0 z))

@@ -14,7 +14,7 @@ use Rattle.sheet.specs.Fields.{phchsOf, capacityOf}
 use Rattle.sheet.specs.Sizes.{slotCapacity, capacityAll}
 use Rattle.sheet.specs.Range.{Accepted}
 use Rattle.sheet.specs.declared.Sheet.{Sheet}
-use Rattle.interleaving.specs.Second.{secondInterleaved, sourceOf}
+use Rattle.interleaving.specs.Second.{secondInterleaved, comesFrom}
 use Rattle.interleaving.proofs.SecondLaws.{source-below, second-at}
 use Rattle.mapping.specs.Mapping.{afterTurns, numberOf, filledAs, ones, at, slotOf}
 use Rattle.mapping.proofs.PlaceLaws.{filled-in}
@@ -36,7 +36,7 @@ module _ (sh : Sheet) (t k : ℕ) (l : t < sh .slots) (h : k < slotCapacity sh t
   unfolding readFrom
   read-below = by (eqb (sh .mode) 0)
     where
-      by : (b : Bool) → cond b (sourceOf (capacityAll sh) (slotStart sh t + k)) (slotStart sh t + sourceOf (slotCapacity sh t) k) < capacityAll sh
+      by : (b : Bool) → cond b (comesFrom (capacityAll sh) (slotStart sh t + k)) (slotStart sh t + comesFrom (slotCapacity sh t) k) < capacityAll sh
       by true = source-below (capacityAll sh) (slotStart sh t + k) (omega (arith, slot-room sh t l))
       by false = omega (arith, source-below (slotCapacity sh t) k h, slot-room sh t l)
 
@@ -45,16 +45,16 @@ module _ (sh : Sheet) (t k : ℕ) (l : t < sh .slots) (h : k < slotCapacity sh t
   read-at {A} xs d full = by (eqb (sh .mode) 0)
     where
       by : (b : Bool) → getD (cond b (slotPart sh t (secondInterleaved xs)) (secondInterleaved (slotPart sh t xs))) k d
-          ≡ getD xs (cond b (sourceOf (capacityAll sh) (slotStart sh t + k)) (slotStart sh t + sourceOf (slotCapacity sh t) k)) d
+          ≡ getD xs (cond b (comesFrom (capacityAll sh) (slotStart sh t + k)) (slotStart sh t + comesFrom (slotCapacity sh t) k)) d
       by true =
           slot-part-at sh t k (secondInterleaved xs) d h
           ∙ second-at xs (slotStart sh t + k) d (omega (arith, slot-room sh t l))
-          ∙ ap (λ (n : ℕ). getD xs (sourceOf n (slotStart sh t + k)) d) full
+          ∙ ap (λ (n : ℕ). getD xs (comesFrom n (slotStart sh t + k)) d) full
       by false =
           let n = length-slot-part sh xs full t l in
           second-at (slotPart sh t xs) k d (omega arith)
-          ∙ ap (λ (i : ℕ). getD (slotPart sh t xs) (sourceOf i k) d) n
-          ∙ slot-part-at sh t (sourceOf (slotCapacity sh t) k) xs d (source-below (slotCapacity sh t) k h)
+          ∙ ap (λ (i : ℕ). getD (slotPart sh t xs) (comesFrom i k) d) n
+          ∙ slot-part-at sh t (comesFrom (slotCapacity sh t) k) xs d (source-below (slotCapacity sh t) k h)
 
 -- ---- step 9: the place
 

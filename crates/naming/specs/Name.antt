@@ -4,10 +4,11 @@ use mathlib.Core.Path.{_≡_}
 use mathlib.Core.Bool.{Bool, cond, _&&_}
 use mathlib.Core.List.{List}
 use Prim.Native.Nat.{ℕ, suc, _+_, _*_, _-_, _%_, _≤_, _<_}
-use lib.Dec.{eqb, ltb, leb}
+use lib.Dec.{eqb, ltb}
 use lib.ListN.{getD}
 use Rattle.laws.specs.Sums.{sumTo}
 use Rattle.laws.specs.Tables.{table}
+use Rattle.counters.specs.Counting.{among}
 use Rattle.sheet.specs.Fields.{ttiOf, encodedOf, phchsOf, capacityOf}
 use Rattle.sheet.specs.Sizes.{framesOf, sizeOf, equalisedOf, slotCapacity, capacityAll}
 use Rattle.sheet.specs.declared.Sheet.{Sheet}
@@ -41,11 +42,11 @@ labelAt i m = record { channel = suc i; bit = suc m }
 unfoldable pub labels : Sheet → ℕ → List Label
 labels sh i = table (labelAt i) 0 (equalisedOf sh i)
 
-abbrev pub named : Label → ℕ → Name
-named l copy = record { channel = l .channel; bit = l .bit; copy = copy }
+abbrev pub copyNamed : Label → ℕ → Name
+copyNamed l copy = record { channel = l .channel; bit = l .bit; copy = copy }
 
 unfoldable pub labelFrame : Sheet → ℕ → List Name
-labelFrame sh frame = frameOf named sh frame (labels sh)
+labelFrame sh frame = frameOf copyNamed sh frame (labels sh)
 
 -- the index of a place in the frame: slot, then PhCH, then place
 unfoldable pub indexOf : Sheet → ℕ → ℕ → ℕ → ℕ
@@ -62,8 +63,8 @@ slotBitAt sh t p place = numberOf (capacityOf sh t) ones (phchsOf sh t) p (fille
 unfoldable pub readFrom : Sheet → ℕ → ℕ → ℕ
 readFrom sh t k =
     cond (eqb (sh .mode) 0)
-    (Second.sourceOf (capacityAll sh) (slotStart sh t + k))
-    (slotStart sh t + Second.sourceOf (slotCapacity sh t) k)
+    (Second.comesFrom (capacityAll sh) (slotStart sh t + k))
+    (slotStart sh t + Second.comesFrom (slotCapacity sh t) k)
 
 -- the index of the multiplexed frame that stands at a place
 unfoldable pub multiplexedAt : Sheet → ℕ → ℕ → ℕ → ℕ
@@ -100,9 +101,6 @@ pub record Exists (sh : Sheet) (slot phch place : ℕ) : Type 0 where
   pub place-to : place ≤ capacityOf sh (slot - 1) (phch - 1)
 
 -- the same as a test: each of the three is one of 1 to as many as there are
-abbrev pub among : ℕ → ℕ → Bool
-among k n = ltb 0 k && leb k n
-
 unfoldable pub hasPlace : Sheet → ℕ → ℕ → ℕ → Bool
 hasPlace sh slot phch place =
     among slot (sh .slots) && (among phch (phchsOf sh (slot - 1)) && among place (capacityOf sh (slot - 1) (phch - 1)))

@@ -1,19 +1,13 @@
 // Number 10: whether a place exists.
 ghost use mathlib.Core.Path.{_≡_};
 ghost use Rattle.sheet.specs.Range.{Ranged};
-ghost use Rattle.naming.specs.Name.{among, hasPlace};
+ghost use Rattle.naming.specs.Name.{hasPlace};
 use counters::PhchNumber;
+use counters::is_among;
 use sheet::Sheet;
 use sheet::counts::CAPACITIES;
 use sheet::counts::CODES;
 use sheet::counts::SLOTS;
-
-// Whether k is one of 1 to n.
-fn is_among(k: u32, n: u16) -> bool
-    ensures { λ r. ⌜ r ≡ among k n ⌝ }
-{
-    if k == 0 { false } else { k <= n as u32 }
-}
 
 // Whether the slot, the physical channel in it and the place in that exist. The arrays of the fields are lent beside them.
 pub fn exists_lent<'a>(
@@ -29,7 +23,7 @@ pub fn exists_lent<'a>(
 {
     if is_among(slot, fields.slots) {
         let t = (slot - 1) as usize;
-        if is_among(phch.0, phchs[t]) {
+        if phch.is_among(phchs[t]) {
             let m = CODES * t + phch.index();
             return is_among(place, caps[m]);
         }

@@ -3,6 +3,7 @@ pub mod WalkLaws
 pub mod MatchedLaws
 pub mod SourceLaws
 pub mod TextLaws
+pub mod SharedLaws
 pub mod SegmentLaws
 pub mod LeftLaws
 pub mod Example

@@ -36,7 +36,7 @@ pub fn say_title(
         out,
         a,
         b"UTRA TDD radio frame, frame number ",
-        frame.0 as u64,
+        frame.number(),
     );
     let c = if mode == 0 {
         say(out, b, b", mode 0 (second interleaving over the frame)")
@@ -116,7 +116,7 @@ fn say_channel(
     let a = open_cell(out, at, 10, y);
     let b = say_cell(out, a, channel_look(trch));
     let c = close_cell(out, b, 10, y);
-    let d = pair(out, c, b"TrCH ", trch.0 as u64);
+    let d = pair(out, c, b"TrCH ", trch.number());
     let e = pair(out, d, b": TTI ", of.f);
     let f = pair(out, e, b"0 ms, E ", of.e);
     let g = pair(out, f, b", N ", of.n);

@@ -1,15 +1,14 @@
 // Listening to one channel of a received frame: what was heard of one bit, and the link record.
 ghost use mathlib.Core.Path.{_≡_};
-ghost use mathlib.Core.Bool.{true};
-ghost use Prim.Native.Nat.{_<_};
 ghost use Rattle.opening.specs.Opened.{Opens};
-ghost use Rattle.receiving.specs.Listened.{missing, askedFor, unheard, listenedMade, listenedOf};
+ghost use Rattle.receiving.specs.Listened.{missing, unheard, listenedMade, listenedOf};
 ghost use Rattle.receiving.specs.Listening.{heardAnswer, linkAnswer};
 use counters::BitNumber;
 use counters::FrameNumber;
 use counters::TrchNumber;
 use homing::receiving::Asked;
 use homing::receiving::Reception;
+use homing::receiving::Wanted;
 use homing::receiving::receive;
 use joining::Heard;
 use joining::linking::Link;
@@ -55,61 +54,42 @@ fn refused(number: u32, at: u64) -> Listened
     }
 }
 
-// Whether there is no such channel, or, if one bit is asked for, no such bit in its segment.
-fn is_missing(opened: Opened, trch: TrchNumber, bit: BitNumber, one: bool) -> bool
+// Whether there is no such channel, or no such bit in its segment.
+fn is_missing(opened: Opened, wanted: Wanted) -> bool
     requires { ⌜ Opens opened ⌝ }
-    ensures { λ r. ⌜ r ≡ missing one (opened .fields) (trch .0) (bit .0) ⌝ }
+    ensures { λ r. ⌜ r ≡ missing (opened .fields) wanted ⌝ }
 {
     let fields = opened.fields;
-    if absent(fields, trch) {
-        return true;
+    match wanted {
+        Wanted::Bit(trch, bit) => {
+            if absent(fields, trch) {
+                return true;
+            }
+            let sizes = opened.sizes;
+            let i = trch.index();
+            !bit.is_among(sizes[i])
+        }
+        Wanted::Channel(trch) => absent(fields, trch),
     }
-    if !one {
-        return false;
-    }
-    if bit.0 == 0 {
-        return true;
-    }
-    let sizes = opened.sizes;
-    let i = trch.index();
-    sizes[i] < bit.0 as u64
-}
-
-fn asked_for(trch: TrchNumber, bit: BitNumber, one: bool) -> Asked
-    requires { ⌜ (0 < trch .0) × (one ≡ true → 0 < bit .0) ⌝ }
-    ensures { λ r. ⌜ r ≡ askedFor one (trch .0) (bit .0) ⌝ }
-{
-    let i = trch.index();
-    if one {
-        return Asked::Bit(i, (bit.0 - 1) as usize);
-    }
-    Asked::Channel(i)
 }
 
 // One bit, or the link record.
-fn listen(
-    bytes: &[u8],
-    number: FrameNumber,
-    frame: &[f32],
-    trch: TrchNumber,
-    bit: BitNumber,
-    one: bool,
-) -> Listened
-    ensures { λ r. ⌜ r ≡ listenedOf one (now (bytes .entry)) (number .0) (now (frame .entry)) (trch .0) (bit .0) ⌝ }
+fn listen(bytes: &[u8], number: FrameNumber, frame: &[f32], wanted: Wanted) -> Listened
+    ensures { λ r. ⌜ r ≡ listenedOf (now (bytes .entry)) (number .0) (now (frame .entry)) wanted ⌝ }
 {
     let answer = open_frame(bytes, number);
     if answer.number != 0 {
         return refused(answer.number, 0);
     }
     let opened = answer.opened;
-    if is_missing(opened, trch, bit, one) {
+    if is_missing(opened, wanted) {
         return refused(10, 0);
     }
     let looked = look_soft(frame, capacity(opened), 0, 0);
     if looked.number != 0 {
         return refused(looked.number, looked.at);
     }
-    let asked = asked_for(trch, bit, one);
+    let asked = Asked::One(wanted);
     let mut unused = [0.0f32; 1];
     let reception = receive(frame, opened, number, asked, &mut unused);
     Listened {
@@ -129,7 +109,7 @@ pub fn heard(
 ) -> HeardAnswer
     ensures { λ r. ⌜ r ≡ heardAnswer (now (bytes .entry)) (number .0) (now (frame .entry)) (trch .0) (bit .0) ⌝ }
 {
-    let found = listen(bytes, number, frame, trch, bit, true);
+    let found = listen(bytes, number, frame, Wanted::Bit(trch, bit));
     let reception = found.reception;
     let heard = reception.heard;
     HeardAnswer {
@@ -139,11 +119,11 @@ pub fn heard(
     }
 }
 
-// The channel's link record. No bit is asked for.
+// The channel's link record.
 pub fn link(bytes: &[u8], number: FrameNumber, frame: &[f32], trch: TrchNumber) -> LinkAnswer
     ensures { λ r. ⌜ r ≡ linkAnswer (now (bytes .entry)) (number .0) (now (frame .entry)) (trch .0) ⌝ }
 {
-    let found = listen(bytes, number, frame, trch, BitNumber(0), false);
+    let found = listen(bytes, number, frame, Wanted::Channel(trch));
     let reception = found.reception;
     let link = reception.link;
     LinkAnswer {

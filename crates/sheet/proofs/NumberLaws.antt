@@ -1,22 +1,36 @@
 -- What the number 0 says of a sheet, and the answers of reading.
 use mathlib.Core.Path.{_≡_, sym, ap, ap₂, _∙_}
-use mathlib.Core.Bool.{false, not, _||_}
+use mathlib.Core.Bool.{Bool, false, not, _||_}
 use mathlib.Core.List.{List}
 use Prim.Native.Nat.{ℕ, _-_, _*_}
 use borrow.Author.Tests.{eq-eqb, ne-eqb, eqb-true, eqb-false, not-false}
 use lib.Dec.{ltb, eqb, lit<}
 use lib.ListN.{length}
+use Rattle.laws.specs.Sums.{anyTo}
 use Rattle.laws.proofs.TestLaws.{or-left, or-right}
 use Rattle.counters.specs.Lines.{firstOf, given}
 use Rattle.counters.proofs.LineLaws.{Numbered, none, more, pass-zero, given-yes, given-no}
 use Rattle.bits.specs.Bits.{bitsAt}
 use Rattle.sheet.specs.Counts.{mostBits}
 use Rattle.sheet.specs.Layout.{spareAt, spareWidth}
-use Rattle.sheet.specs.Fields.{sheetOf, blank}
+use Rattle.sheet.specs.Fields.{sheetOf, blank, phchsOf, capacityOf}
 use Rattle.sheet.specs.Sizes.{equalisedAll, capacityAll, bitsNeeded, bytesNeeded}
-use Rattle.sheet.specs.Numbers.{emptyPlace, silent, wrongLength, spareSet, paddingSet, misfit, loadLines, readLines, readNumber, readAnswer}
+use Rattle.sheet.specs.Numbers.{emptyPlace, silent, misfit, loadLines, readLines, readNumber, readAnswer}
 use Rattle.sheet.specs.declared.Sheet.{Sheet}
 use Rattle.sheet.specs.declared.SheetAnswer.{SheetAnswer}
+
+-- the three of line 4, and line 5 of one slot
+abbrev pub wrongLength : List ℕ → Bool
+wrongLength s = not (eqb (length s) (bytesNeeded (sheetOf s)))
+
+abbrev pub spareSet : List ℕ → Bool
+spareSet s = not (eqb (bitsAt s spareAt spareWidth) 0)
+
+abbrev pub paddingSet : List ℕ → Bool
+paddingSet s = not (eqb (bitsAt s (bitsNeeded (sheetOf s)) (8 * length s - bitsNeeded (sheetOf s))) 0)
+
+abbrev pub emptySlot : Sheet → ℕ → Bool
+emptySlot sh t = anyTo (λ p. eqb (capacityOf sh t p) 0) (phchsOf sh t)
 
 pub load-numbered : (sh : Sheet) → Numbered (loadLines sh)
 load-numbered sh = more (lit< tt) (more (lit< tt) (more (lit< tt) (more (lit< tt) none)))

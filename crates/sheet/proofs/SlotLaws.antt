@@ -13,7 +13,8 @@ use Rattle.bits.specs.Bits.{bitsAt}
 use Rattle.bits.proofs.BitLaws.{bits-lt}
 use Rattle.sheet.specs.Counts.{mostChannels, mostSlots, mostCodes, mostCapacities}
 use Rattle.sheet.specs.Layout.{versionAt, versionWidth, modeAt, modeWidth, countAt, countWidth, slotsAt, slotsWidth, ttiWidth, encodedWidth, ratioWidth, codesWidth, capacityWidth, channelAt, slotWidth}
-use Rattle.sheet.specs.Fields.{ttiIn, encodedIn, ratioIn, slotFrom, phchsIn, capacityIn, channelsTo, slotsTo, sheetOf}
+use Rattle.sheet.specs.Fields.{ttiIn, encodedIn, ratioIn, slotFrom, phchsIn, capacityIn, sheetOf}
+use Rattle.sheet.specs.Reading.{channelsTo, slotsTo}
 use Rattle.sheet.specs.declared.fields.Channels.{Channels}
 use Rattle.sheet.specs.declared.fields.Slots.{Slots}
 use Rattle.sheet.specs.declared.Sheet.{Sheet}

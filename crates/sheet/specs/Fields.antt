@@ -5,17 +5,19 @@ use lib.ListN.{getD, replicate}
 use Rattle.laws.specs.Tables.{table, upTo}
 use Rattle.bits.specs.Bits.{bitsAt}
 use Rattle.sheet.specs.Counts.{mostChannels, mostSlots, mostCodes, mostCapacities}
-use Rattle.sheet.specs.Layout.{versionAt, versionWidth, modeAt, modeWidth, countAt, countWidth, slotsAt, slotsWidth, ttiWidth, encodedWidth, ratioWidth, codesWidth, capacityWidth, channelAt, slotWidth}
-use Rattle.sheet.specs.declared.fields.Channels.{Channels}
-use Rattle.sheet.specs.declared.fields.Slots.{Slots}
+use Rattle.sheet.specs.Layout.{headWidths, widthTo, ttiWidth, encodedWidth, ratioWidth, codesWidth, capacityWidth, channelAt, slotWidth}
 use Rattle.sheet.specs.declared.Sheet.{Sheet}
+
+-- field k of the head, counted from 0
+abbrev pub headIn : List ℕ → ℕ → ℕ
+headIn s k = bitsAt s (widthTo headWidths k) (getD headWidths k 0)
 
 -- I and T of the bytes
 abbrev pub channelsIn : List ℕ → ℕ
-channelsIn s = bitsAt s countAt countWidth + 1
+channelsIn s = headIn s 2 + 1
 
 abbrev pub slotsIn : List ℕ → ℕ
-slotsIn s = bitsAt s slotsAt slotsWidth
+slotsIn s = headIn s 3
 
 -- TTI, E and RM of channel i of the bytes
 abbrev pub ttiIn : List ℕ → ℕ → ℕ
@@ -42,36 +44,19 @@ capacityIn s start m =
     upTo (phchsIn s start (m / mostCodes)) (m % mostCodes)
     (bitsAt s (slotFrom s start (m / mostCodes) + slotWidth (m % mostCodes)) capacityWidth)
 
--- the first k channels, and 0 past them
-abbrev pub channelsTo : List ℕ → ℕ → Channels
-channelsTo s k =
-    record {
-      tti = table (λ i. upTo k i (ttiIn s i)) 0 mostChannels;
-      e = table (λ i. upTo k i (encodedIn s i)) 0 mostChannels;
-      rm = table (λ i. upTo k i (ratioIn s i)) 0 mostChannels;
-    }
-
--- P of the first t slots and the first m capacities, and 0 past them
-abbrev pub slotsTo : List ℕ → ℕ → ℕ → ℕ → Slots
-slotsTo s start t m =
-    record {
-      phchs = table (λ k. upTo t k (phchsIn s start k)) 0 mostSlots;
-      caps = table (λ k. upTo m k (capacityIn s start k)) 0 mostCapacities;
-    }
-
 -- the fields of the bytes, whatever they are; 0 past I, T and P
 unfoldable pub sheetOf : List ℕ → Sheet
 sheetOf s =
     record {
-      version = bitsAt s versionAt versionWidth;
-      mode = bitsAt s modeAt modeWidth;
+      version = headIn s 0;
+      mode = headIn s 1;
       channels = channelsIn s;
       slots = slotsIn s;
-      tti = channelsTo s (channelsIn s) .tti;
-      e = channelsTo s (channelsIn s) .e;
-      rm = channelsTo s (channelsIn s) .rm;
-      phchs = slotsTo s (channelAt (channelsIn s)) (slotsIn s) (mostCodes * slotsIn s) .phchs;
-      caps = slotsTo s (channelAt (channelsIn s)) (slotsIn s) (mostCodes * slotsIn s) .caps;
+      tti = table (λ i. upTo (channelsIn s) i (ttiIn s i)) 0 mostChannels;
+      e = table (λ i. upTo (channelsIn s) i (encodedIn s i)) 0 mostChannels;
+      rm = table (λ i. upTo (channelsIn s) i (ratioIn s i)) 0 mostChannels;
+      phchs = table (λ t. upTo (slotsIn s) t (phchsIn s (channelAt (channelsIn s)) t)) 0 mostSlots;
+      caps = table (λ m. upTo (mostCodes * slotsIn s) m (capacityIn s (channelAt (channelsIn s)) m)) 0 mostCapacities;
     }
 
 -- a sheet of zeros: what a refused call gives

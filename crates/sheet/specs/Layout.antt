@@ -1,39 +1,16 @@
--- Where the fields of a sheet stand in its bits, and how wide they are: the table of document 01, 'The format sheet'.
-use Prim.Native.Nat.{ℕ, _+_, _*_}
+-- How wide the fields of a sheet are, in bits, and where they stand: the table of document 01, 'The format sheet'.
+use mathlib.Core.List.{List, [], _∷_}
+use Prim.Native.Nat.{ℕ, zero, suc, _+_, _*_}
+use lib.ListN.{getD}
 
 -- the head: version, mode, I-1, T, spare
-abbrev pub versionAt : ℕ
-versionAt = 0
+abbrev pub headWidths : List ℕ
+headWidths = 4 ∷ 1 ∷ 3 ∷ 4 ∷ 4 ∷ []
 
-abbrev pub versionWidth : ℕ
-versionWidth = 4
-
-abbrev pub modeAt : ℕ
-modeAt = 4
-
-abbrev pub modeWidth : ℕ
-modeWidth = 1
-
-abbrev pub countAt : ℕ
-countAt = 5
-
-abbrev pub countWidth : ℕ
-countWidth = 3
-
-abbrev pub slotsAt : ℕ
-slotsAt = 8
-
-abbrev pub slotsWidth : ℕ
-slotsWidth = 4
-
-abbrev pub spareAt : ℕ
-spareAt = 12
-
-abbrev pub spareWidth : ℕ
-spareWidth = 4
-
-abbrev pub headWidth : ℕ
-headWidth = 16
+-- the first k of some widths, added up: the bit at which field k begins
+abbrev pub widthTo : List ℕ → ℕ → ℕ
+widthTo ws zero = 0
+widthTo ws (suc k) = widthTo ws k + getD ws k 0
 
 -- a channel: TTI, E, RM-1
 abbrev pub ttiWidth : ℕ
@@ -45,9 +22,6 @@ encodedWidth = 14
 abbrev pub ratioWidth : ℕ
 ratioWidth = 8
 
-abbrev pub channelWidth : ℕ
-channelWidth = ttiWidth + encodedWidth + ratioWidth
-
 -- a slot: P-1, and U, P times
 abbrev pub codesWidth : ℕ
 codesWidth = 4
@@ -57,8 +31,42 @@ capacityWidth = 12
 
 -- the bit at which channel i begins, counted from 0; with i channels, the bit at which the first slot begins
 abbrev pub channelAt : ℕ → ℕ
-channelAt i = headWidth + channelWidth * i
+channelAt i = widthTo headWidths 5 + (ttiWidth + encodedWidth + ratioWidth) * i
 
 -- the bits of a slot of p physical channels, and the bit, counted from the slot's first, at which its capacity p begins
 abbrev pub slotWidth : ℕ → ℕ
 slotWidth p = codesWidth + capacityWidth * p
+
+-- the fields of the head by their names
+abbrev pub versionAt : ℕ
+versionAt = widthTo headWidths 0
+
+abbrev pub versionWidth : ℕ
+versionWidth = getD headWidths 0 0
+
+abbrev pub modeAt : ℕ
+modeAt = widthTo headWidths 1
+
+abbrev pub modeWidth : ℕ
+modeWidth = getD headWidths 1 0
+
+abbrev pub countAt : ℕ
+countAt = widthTo headWidths 2
+
+abbrev pub countWidth : ℕ
+countWidth = getD headWidths 2 0
+
+abbrev pub slotsAt : ℕ
+slotsAt = widthTo headWidths 3
+
+abbrev pub slotsWidth : ℕ
+slotsWidth = getD headWidths 3 0
+
+abbrev pub spareAt : ℕ
+spareAt = widthTo headWidths 4
+
+abbrev pub spareWidth : ℕ
+spareWidth = getD headWidths 4 0
+
+abbrev pub headWidth : ℕ
+headWidth = widthTo headWidths 5

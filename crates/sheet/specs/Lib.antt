@@ -1,6 +1,7 @@
 pub mod Counts
 pub mod Layout
 pub mod Fields
+pub mod Reading
 pub mod Sizes
 pub mod Numbers
 pub mod Range

@@ -8,32 +8,21 @@ use Rattle.laws.specs.Sums.{sumTo, anyTo}
 use Rattle.counters.specs.Lines.{Line, line, firstOf, given}
 use Rattle.bits.specs.Bits.{bitsAt}
 use Rattle.sheet.specs.Counts.{mostCodes, mostBits}
-use Rattle.sheet.specs.Layout.{spareAt, spareWidth}
-use Rattle.sheet.specs.Fields.{sheetOf, blank, encodedOf, phchsOf, capacityOf}
+use Rattle.sheet.specs.Fields.{headIn, sheetOf, blank, encodedOf, phchsOf, capacityOf}
 use Rattle.sheet.specs.Sizes.{equalisedAll, capacityAll, bitsNeeded, bytesNeeded}
 use Rattle.sheet.specs.declared.sizes.Load.{Load}
 use Rattle.sheet.specs.declared.Sheet.{Sheet}
 use Rattle.sheet.specs.declared.SheetAnswer.{SheetAnswer}
 
 -- 4: sheet length not what its fields need, or a spare or padding bit set
-abbrev pub wrongLength : List ℕ → Bool
-wrongLength s = not (eqb (length s) (bytesNeeded (sheetOf s)))
-
-abbrev pub spareSet : List ℕ → Bool
-spareSet s = not (eqb (bitsAt s spareAt spareWidth) 0)
-
-abbrev pub paddingSet : List ℕ → Bool
-paddingSet s = not (eqb (bitsAt s (bitsNeeded (sheetOf s)) (8 * length s - bitsNeeded (sheetOf s))) 0)
-
 abbrev pub misfit : List ℕ → Bool
-misfit s = wrongLength s || (spareSet s || paddingSet s)
+misfit s =
+    not (eqb (length s) (bytesNeeded (sheetOf s)))
+    || (not (eqb (headIn s 4) 0) || not (eqb (bitsAt s (bitsNeeded (sheetOf s)) (8 * length s - bitsNeeded (sheetOf s))) 0))
 
 -- 5: a capacity is 0
-abbrev pub emptySlot : Sheet → ℕ → Bool
-emptySlot sh t = anyTo (λ p. eqb (capacityOf sh t p) 0) (phchsOf sh t)
-
 abbrev pub emptyPlace : Sheet → Bool
-emptyPlace sh = anyTo (emptySlot sh) (sh .slots)
+emptyPlace sh = anyTo (λ t. anyTo (λ p. eqb (capacityOf sh t p) 0) (phchsOf sh t)) (sh .slots)
 
 -- what n capacities from `from` on come to, and those of n slots
 abbrev pub slotLoad : List ℕ → ℕ → ℕ → Load

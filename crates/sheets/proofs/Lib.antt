@@ -1,3 +1,4 @@
 pub mod FlatLaws
 pub mod SheetLaws
 pub mod ThereAndBack
+pub mod Unique

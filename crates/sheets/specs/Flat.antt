@@ -2,7 +2,7 @@
 -- slots; U of fifteen times sixteen physical channels.
 use mathlib.Core.Path.{_≡_}
 use mathlib.Core.List.{List, [], _∷_, _++_}
-use Prim.Native.Nat.{ℕ, _+_}
+use Prim.Native.Nat.{ℕ, _+_, _*_}
 use lib.ListN.{length, getD, take, drop}
 use lib.Seq.{paste}
 use Rattle.sheet.specs.Counts.{mostChannels, mostSlots, mostCapacities}
@@ -25,7 +25,7 @@ abbrev pub capsFrom : ℕ
 capsFrom = phchsFrom + mostSlots
 
 abbrev pub flatCount : ℕ
-flatCount = capsFrom + mostCapacities
+flatCount = 4 + 3 * mostChannels + mostSlots + mostCapacities
 
 unfoldable pub flatOf : Sheet → List ℕ
 flatOf sh =

@@ -80,7 +80,7 @@ pub fn send_before(
 {
     let none = Silence { from: 0, to: 0 };
     let mut n = first;
-    while n < number.0 {
+    while number.is_over(n) {
         send(sheet, FrameNumber(n), contents, none, frame, heard, joined);
         n += 1;
     }
@@ -129,7 +129,7 @@ fn say_finished(sheet: &[u8], trch: TrchNumber, joined: &[f32], coded: &mut [f32
         say_refused(finished.number);
         return;
     }
-    say_number(trch.0 as u64);
+    say_number(trch.number());
     say(b":");
     say_values(coded);
     say(b"\n");

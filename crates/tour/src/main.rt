@@ -37,7 +37,7 @@ fn tour(title: &[u8], sheet: &[u8], number: FrameNumber, contents: &[u8], frame:
     say(b"contents:");
     say_contents(fields, contents);
     say(b"\nframe number ");
-    say_number(number.0 as u64);
+    say_number(number.number());
     say(b", the frame:\n");
     say_frame(fields, frame);
     say(b"the name of each place:\n");

@@ -107,10 +107,10 @@ pub fn say_frame(fields: Sheet, frame: &[u8]) {
 // A name as the legend says.
 fn say_name(sheet: &[u8], name: PlaceName) {
     let trch = name.trch;
-    let bit = name.bit.0 as u64;
+    let bit = name.bit.number();
     let of = channel(sheet, trch);
     say(b" ");
-    say_number(trch.0 as u64);
+    say_number(trch.number());
     say(b".");
     say_number(bit);
     if name.copy > 0 {

@@ -1,99 +1,75 @@
--- Each public call's answer is unique: its contract says that all it leaves equals a function of its inputs, so two outcomes that both meet
--- the contract are the same. One theorem for each call, named after it, over the right-hand side of its contract.
-use mathlib.Core.Path.{_≡_, sym, _∙_}
+-- Each call of this crate is promised: its contract, as the toolchain reads it out of the code, takes all inputs and determines the result and the last
+-- values of all that was lent for writing. A statement names the call alone, so that a contract that leaves a part open is refused here.
 use mathlib.Core.List.{List}
 use Prim.Native.Nat.{ℕ}
 use lib.Ieee.{Float}
+use Rattle.counters.specs.Promised.{Promised}
 use Rattle.counters.specs.declared.Answer.{Answer}
-use Rattle.sheet.specs.Numbers.{readAnswer}
-use Rattle.sheet.specs.declared.Sheet.{Sheet}
-use Rattle.sheet.specs.declared.SheetAnswer.{SheetAnswer}
-use Rattle.writing.specs.Written.{lengthAnswer}
-use Rattle.looking.specs.Outcome.{Outcome}
-use Rattle.sheets.specs.Sheets.{readInto, writeInto, lengthFrom, writeFrom}
-use Rattle.asking.specs.Asking.{sizesAnswer, channelAnswer}
-use Rattle.asking.specs.Naming.{Naming, nameAnswer}
-use Rattle.asking.specs.Part.{partAnswer, partOf}
+use Rattle.counters.proofs.PromiseLaws.{with-lasts}
+use Rattle.looking.proofs.OutcomeLaws.{number-and}
+use Rattle.asking.specs.Naming.{Naming}
 use Rattle.asking.specs.declared.SizesAnswer.{SizesAnswer}
 use Rattle.asking.specs.declared.ChannelAnswer.{ChannelAnswer}
 use Rattle.asking.specs.declared.part.PartAnswer.{PartAnswer}
-use Rattle.sending.specs.Building.{buildInto, multiplexInto, spreadInto}
-use Rattle.receiving.specs.Receiving.{gatherInto, takeInto, finishInto}
-use Rattle.receiving.specs.Listening.{heardAnswer, Numbers, heardNumbers, linkAnswer}
-use Rattle.receiving.specs.declared.listening.HeardAnswer.{HeardAnswer}
+use Rattle.receiving.specs.Listening.{Numbers}
 use Rattle.receiving.specs.declared.listening.LinkAnswer.{LinkAnswer}
+use Rattle.ummervia.proofs.exports.umv_sheet_read as UmvSheetRead
+use Rattle.ummervia.proofs.exports.umv_sheet_length as UmvSheetLength
+use Rattle.ummervia.proofs.exports.umv_sheet_write as UmvSheetWrite
+use Rattle.ummervia.proofs.exports.umv_sizes as UmvSizes
+use Rattle.ummervia.proofs.exports.umv_channel as UmvChannel
+use Rattle.ummervia.proofs.exports.umv_build as UmvBuild
+use Rattle.ummervia.proofs.exports.umv_multiplex as UmvMultiplex
+use Rattle.ummervia.proofs.exports.umv_spread as UmvSpread
+use Rattle.ummervia.proofs.exports.umv_part as UmvPart
+use Rattle.ummervia.proofs.exports.umv_name as UmvName
+use Rattle.ummervia.proofs.exports_home.umv_gather as UmvGather
+use Rattle.ummervia.proofs.exports_home.umv_take_back as UmvTakeBack
+use Rattle.ummervia.proofs.exports_home.umv_finish as UmvFinish
+use Rattle.ummervia.proofs.exports_home.umv_heard as UmvHeard
+use Rattle.ummervia.proofs.exports_home.umv_link as UmvLink
 
-only : {A : Type 0} {x y : A} (z : A) → x ≡ z → y ≡ z → x ≡ y
-only z p q = p ∙ sym q
+pub umv-sheet-read : Promised UmvSheetRead.ended UmvSheetRead.Reads.Asked UmvSheetRead.Reads.Learnt
+umv-sheet-read = record { takes-all = λ κs inputs. tt; one-answer = λ κs inputs x y v w. number-and (λ (buffer : List ℕ) (at : ℕ). (tt, (buffer, (at, tt)))) }
 
--- the calls in Rattle
-pub sheet-read : (bytes : List ℕ) (x y : SheetAnswer) → x ≡ readAnswer bytes → y ≡ readAnswer bytes → x ≡ y
-sheet-read bytes x y = only (readAnswer bytes)
+pub umv-sheet-length : Promised UmvSheetLength.ended UmvSheetLength.Reads.Asked UmvSheetLength.Reads.Learnt
+umv-sheet-length = record { takes-all = λ κs inputs. tt; one-answer = λ κs inputs x y v w. with-lasts (λ (z : Answer). z .number) (λ (z : Answer). (tt, (z .at, tt))) }
 
-pub sheet-length : (fields : Sheet) (x y : Answer) → x ≡ lengthAnswer fields → y ≡ lengthAnswer fields → x ≡ y
-sheet-length fields x y = only (lengthAnswer fields)
+pub umv-sheet-write : Promised UmvSheetWrite.ended UmvSheetWrite.Reads.Asked UmvSheetWrite.Reads.Learnt
+umv-sheet-write = record { takes-all = λ κs inputs. tt; one-answer = λ κs inputs x y v w. number-and (λ (buffer : List ℕ) (at : ℕ). (tt, (buffer, (at, tt)))) }
 
-pub sheet-write : (fields : Sheet) (old : List ℕ) (x y : Outcome ℕ) → x ≡ writeInto fields old → y ≡ writeInto fields old → x ≡ y
-sheet-write fields old x y = only (writeInto fields old)
+pub umv-sizes : Promised UmvSizes.ended UmvSizes.Reads.Asked UmvSizes.Reads.Learnt
+umv-sizes = record { takes-all = λ κs inputs. tt; one-answer = λ κs inputs x y v w. with-lasts (λ (z : SizesAnswer). z .number) (λ (z : SizesAnswer). (tt, (z .channels, (z .slots, (z .contents, (z .capacity, (z .joined, tt))))))) }
 
-pub sizes : (bytes : List ℕ) (x y : SizesAnswer) → x ≡ sizesAnswer bytes → y ≡ sizesAnswer bytes → x ≡ y
-sizes bytes x y = only (sizesAnswer bytes)
+pub umv-channel : Promised UmvChannel.ended UmvChannel.Reads.Asked UmvChannel.Reads.Learnt
+umv-channel = record { takes-all = λ κs inputs. tt; one-answer = λ κs inputs x y v w. with-lasts (λ (z : ChannelAnswer). z .number) (λ (z : ChannelAnswer). (tt, (tt, (z .f, (z .e, (z .n, (z .v, tt))))))) }
 
-pub channel : (bytes : List ℕ) (trch : ℕ) (x y : ChannelAnswer) → x ≡ channelAnswer bytes trch → y ≡ channelAnswer bytes trch → x ≡ y
-channel bytes trch x y = only (channelAnswer bytes trch)
+pub umv-build : Promised UmvBuild.ended UmvBuild.Reads.Asked UmvBuild.Reads.Learnt
+umv-build = record { takes-all = λ κs inputs. tt; one-answer = λ κs inputs x y v w. number-and (λ (buffer : List ℕ) (at : ℕ). (tt, (tt, (tt, (buffer, (at, tt)))))) }
 
-pub build : (bytes : List ℕ) (frame : ℕ) (contents old : List ℕ) (x y : Outcome ℕ)
-    → x ≡ buildInto bytes frame contents old → y ≡ buildInto bytes frame contents old → x ≡ y
-build bytes frame contents old x y = only (buildInto bytes frame contents old)
+pub umv-multiplex : Promised UmvMultiplex.ended UmvMultiplex.Reads.Asked UmvMultiplex.Reads.Learnt
+umv-multiplex = record { takes-all = λ κs inputs. tt; one-answer = λ κs inputs x y v w. number-and (λ (buffer : List ℕ) (at : ℕ). (tt, (tt, (tt, (buffer, (at, tt)))))) }
 
-pub multiplex : (bytes : List ℕ) (frame : ℕ) (contents old : List ℕ) (x y : Outcome ℕ)
-    → x ≡ multiplexInto bytes frame contents old → y ≡ multiplexInto bytes frame contents old → x ≡ y
-multiplex bytes frame contents old x y = only (multiplexInto bytes frame contents old)
+pub umv-spread : Promised UmvSpread.ended UmvSpread.Reads.Asked UmvSpread.Reads.Learnt
+umv-spread = record { takes-all = λ κs inputs. tt; one-answer = λ κs inputs x y v w. number-and (λ (buffer : List ℕ) (at : ℕ). (tt, (tt, (buffer, (at, tt))))) }
 
-pub spread : (bytes bits old : List ℕ) (x y : Outcome ℕ) → x ≡ spreadInto bytes bits old → y ≡ spreadInto bytes bits old → x ≡ y
-spread bytes bits old x y = only (spreadInto bytes bits old)
+pub umv-part : Promised UmvPart.ended UmvPart.Reads.Asked UmvPart.Reads.Learnt
+umv-part = record { takes-all = λ κs inputs. tt; one-answer = λ κs inputs x y v w. with-lasts (λ (z : PartAnswer). z .number) (λ (z : PartAnswer). (tt, (tt, (tt, (z .start, (z .length, tt)))))) }
 
-pub name : (bytes : List ℕ) (frame slot phch place : ℕ) (x y : Naming)
-    → x ≡ nameAnswer bytes frame slot phch place → y ≡ nameAnswer bytes frame slot phch place → x ≡ y
-name bytes frame slot phch place x y = only (nameAnswer bytes frame slot phch place)
+pub umv-name : Promised UmvName.ended UmvName.Reads.Asked UmvName.Reads.Learnt
+umv-name = record { takes-all = λ κs inputs. tt; one-answer = λ κs inputs x y v w. with-lasts (λ (z : Naming). z .number) (λ (z : Naming). (tt, (tt, (tt, (tt, (tt, (z .name .channel, (z .name .bit, (z .name .copy, tt))))))))) }
 
-pub part : (bytes : List ℕ) (trch n : ℕ) (x y : PartAnswer) → x ≡ partAnswer bytes trch n → y ≡ partAnswer bytes trch n → x ≡ y
-part bytes trch n x y = only (partAnswer bytes trch n)
+pub umv-gather : Promised UmvGather.ended UmvGather.Reads.Asked UmvGather.Reads.Learnt
+umv-gather = record { takes-all = λ κs inputs. tt; one-answer = λ κs inputs x y v w. number-and (λ (buffer : List Float) (at : ℕ). (tt, (tt, (buffer, (at, tt))))) }
 
--- part_bits and part_soft
-pub part-values : {A : Type 0} (bytes : List ℕ) (trch : ℕ) (vs x y : List A) → x ≡ partOf bytes trch vs → y ≡ partOf bytes trch vs → x ≡ y
-part-values bytes trch vs x y = only (partOf bytes trch vs)
+pub umv-take-back : Promised UmvTakeBack.ended UmvTakeBack.Reads.Asked UmvTakeBack.Reads.Learnt
+umv-take-back = record { takes-all = λ κs inputs. tt; one-answer = λ κs inputs x y v w. number-and (λ (buffer : List Float) (at : ℕ). (tt, (tt, (tt, (buffer, (at, tt)))))) }
 
-pub gather : (bytes : List ℕ) (frame old : List Float) (x y : Outcome Float)
-    → x ≡ gatherInto bytes frame old → y ≡ gatherInto bytes frame old → x ≡ y
-gather bytes frame old x y = only (gatherInto bytes frame old)
+pub umv-finish : Promised UmvFinish.ended UmvFinish.Reads.Asked UmvFinish.Reads.Learnt
+umv-finish = record { takes-all = λ κs inputs. tt; one-answer = λ κs inputs x y v w. number-and (λ (buffer : List Float) (at : ℕ). (tt, (tt, (tt, (buffer, (at, tt)))))) }
 
-pub take-back : (bytes : List ℕ) (number : ℕ) (frame old : List Float) (x y : Outcome Float)
-    → x ≡ takeInto bytes number frame old → y ≡ takeInto bytes number frame old → x ≡ y
-take-back bytes number frame old x y = only (takeInto bytes number frame old)
+pub umv-heard : Promised UmvHeard.ended UmvHeard.Reads.Asked UmvHeard.Reads.Learnt
+umv-heard = record { takes-all = λ κs inputs. tt; one-answer = λ κs inputs x y v w. with-lasts (λ (z : Numbers). z .number) (λ (z : Numbers). (tt, (tt, (tt, (tt, (tt, (z .at, (z .value, (z .copies, tt))))))))) }
 
-pub finish : (bytes : List ℕ) (trch : ℕ) (joined old : List Float) (x y : Outcome Float)
-    → x ≡ finishInto bytes trch joined old → y ≡ finishInto bytes trch joined old → x ≡ y
-finish bytes trch joined old x y = only (finishInto bytes trch joined old)
-
-pub heard : (bytes : List ℕ) (number : ℕ) (frame : List Float) (trch bit : ℕ) (x y : HeardAnswer)
-    → x ≡ heardAnswer bytes number frame trch bit → y ≡ heardAnswer bytes number frame trch bit → x ≡ y
-heard bytes number frame trch bit x y = only (heardAnswer bytes number frame trch bit)
-
-pub link : (bytes : List ℕ) (number : ℕ) (frame : List Float) (trch : ℕ) (x y : LinkAnswer)
-    → x ≡ linkAnswer bytes number frame trch → y ≡ linkAnswer bytes number frame trch → x ≡ y
-link bytes number frame trch x y = only (linkAnswer bytes number frame trch)
-
--- the calls in C; those that are not named here leave what the calls in Rattle do
-pub umv-sheet-read : (bytes old : List ℕ) (x y : Outcome ℕ) → x ≡ readInto bytes old → y ≡ readInto bytes old → x ≡ y
-umv-sheet-read bytes old x y = only (readInto bytes old)
-
-pub umv-sheet-length : (fields : List ℕ) (x y : Answer) → x ≡ lengthFrom fields → y ≡ lengthFrom fields → x ≡ y
-umv-sheet-length fields x y = only (lengthFrom fields)
-
-pub umv-sheet-write : (fields old : List ℕ) (x y : Outcome ℕ) → x ≡ writeFrom fields old → y ≡ writeFrom fields old → x ≡ y
-umv-sheet-write fields old x y = only (writeFrom fields old)
-
-pub umv-heard : (bytes : List ℕ) (number : ℕ) (frame : List Float) (trch bit : ℕ) (x y : Numbers)
-    → x ≡ heardNumbers (heardAnswer bytes number frame trch bit) → y ≡ heardNumbers (heardAnswer bytes number frame trch bit) → x ≡ y
-umv-heard bytes number frame trch bit x y = only (heardNumbers (heardAnswer bytes number frame trch bit))
+pub umv-link : Promised UmvLink.ended UmvLink.Reads.Asked UmvLink.Reads.Learnt
+umv-link = record { takes-all = λ κs inputs. tt; one-answer = λ κs inputs x y v w. with-lasts (λ (z : LinkAnswer). z .number) (λ (z : LinkAnswer). (tt, (tt, (tt, (tt, (z .at, (z .link .least, (z .link .greatest, (z .link .punctured, tt))))))))) }

@@ -188,8 +188,8 @@ pub extern "C" fn umv_name(
         place,
     );
     let found = answer.name;
-    *trch = found.trch.0 as u64;
-    *bit = found.bit.0 as u64;
+    *trch = found.trch.number();
+    *bit = found.bit.number();
     *copy = found.copy;
     answer.number
 }

@@ -1,5 +1,5 @@
 -- The values of document 01 that are marked P: for each what the definitions give, and what the paper prints.
-use mathlib.Core.List.{List, [], _∷_, _++_}
+use mathlib.Core.List.{List, [], _∷_}
 use Prim.Native.Nat.{ℕ, suc, _+_, _*_, _-_}
 use lib.IntN.{ℤ, pos, negsuc, _-ℤ_}
 use lib.ListN.{getD, take, drop, replicate}
@@ -37,14 +37,25 @@ twoWeights i = getD (1 * 6 ∷ 2 * 4 ∷ []) i 0
 abbrev pub sentAlone : ℕ → ℕ → List ℕ
 sentAlone N D = matchedText asIs (pos D -ℤ pos N) N (startOf N (pos D -ℤ pos N) 0 0) (bits N)
 
+-- what PhCH 1 and PhCH 2 hold of a slot of these two capacities
+abbrev pub firstCode : ℕ → ℕ → List ℕ
+firstCode U W = take U (slotOf (U ∷ W ∷ []) (bits (U + W)) (replicate (U + W) 0))
+
+abbrev pub secondCode : ℕ → ℕ → List ℕ
+secondCode U W = drop U (slotOf (U ∷ W ∷ []) (bits (U + W)) (replicate (U + W) 0))
+
+-- one row for each list that the paper prints, so that no border between two of them is lost
 unfoldable pub rows : List Row
 rows =
     -- E=4, F=4: N=1
     row (segmentIn 4 4 ∷ []) (1 ∷ []) ∷
     -- E=5, F=4: N=2, three fillers; frames 0 to 3 hold bits 1,5 / 3,7 / 2,6 / 4,8
-    row (segmentIn 5 4 ∷ equalised 0 2 2 (bits 5)) (2 ∷ 1 ∷ 2 ∷ 3 ∷ 4 ∷ 5 ∷ 0 ∷ 0 ∷ 0 ∷ []) ∷
-    row (segmentOf 2 0 2 (bits 8) ++ segmentOf 2 1 2 (bits 8) ++ segmentOf 2 2 2 (bits 8) ++ segmentOf 2 3 2 (bits 8))
-    (1 ∷ 5 ∷ 3 ∷ 7 ∷ 2 ∷ 6 ∷ 4 ∷ 8 ∷ []) ∷
+    row (segmentIn 5 4 ∷ []) (2 ∷ []) ∷
+    row (equalised 0 2 2 (bits 5)) (1 ∷ 2 ∷ 3 ∷ 4 ∷ 5 ∷ 0 ∷ 0 ∷ 0 ∷ []) ∷
+    row (segmentOf 2 0 2 (bits 8)) (1 ∷ 5 ∷ []) ∷
+    row (segmentOf 2 1 2 (bits 8)) (3 ∷ 7 ∷ []) ∷
+    row (segmentOf 2 2 2 (bits 8)) (2 ∷ 6 ∷ []) ∷
+    row (segmentOf 2 3 2 (bits 8)) (4 ∷ 8 ∷ []) ∷
     -- E=0: N=0. E=1, F=8: N=1
     row (segmentIn 0 1 ∷ segmentIn 0 2 ∷ segmentIn 0 4 ∷ segmentIn 0 8 ∷ []) (0 ∷ 0 ∷ 0 ∷ 0 ∷ []) ∷
     row (segmentIn 1 8 ∷ []) (1 ∷ []) ∷
@@ -64,8 +75,11 @@ rows =
     row (table (yOf (negsuc 3) 8) 0 8) (0 ∷ 4 ∷ 7 ∷ 11 ∷ 14 ∷ 18 ∷ 21 ∷ 25 ∷ []) ∷
     -- second interleaving of 8: 1,6,4,2,7,5,3,8. Of 31: begins 1, 31, 21, 11 and ends with 18
     row (secondInterleaved (bits 8)) (1 ∷ 6 ∷ 4 ∷ 2 ∷ 7 ∷ 5 ∷ 3 ∷ 8 ∷ []) ∷
-    row (take 4 (secondInterleaved (bits 31)) ++ drop 30 (secondInterleaved (bits 31))) (1 ∷ 31 ∷ 21 ∷ 11 ∷ 18 ∷ []) ∷
+    row (take 4 (secondInterleaved (bits 31))) (1 ∷ 31 ∷ 21 ∷ 11 ∷ []) ∷
+    row (drop 30 (secondInterleaved (bits 31))) (18 ∷ []) ∷
     -- slot U = 3, 2: PhCH 1 holds 1,3,5, PhCH 2 holds 4,2. U = 1, 3: 1 and 4,3,2
-    row (slotOf (3 ∷ 2 ∷ []) (bits 5) (replicate 5 0)) (1 ∷ 3 ∷ 5 ∷ 4 ∷ 2 ∷ []) ∷
-    row (slotOf (1 ∷ 3 ∷ []) (bits 4) (replicate 4 0)) (1 ∷ 4 ∷ 3 ∷ 2 ∷ []) ∷
+    row (firstCode 3 2) (1 ∷ 3 ∷ 5 ∷ []) ∷
+    row (secondCode 3 2) (4 ∷ 2 ∷ []) ∷
+    row (firstCode 1 3) (1 ∷ []) ∷
+    row (secondCode 1 3) (4 ∷ 3 ∷ 2 ∷ []) ∷
     []

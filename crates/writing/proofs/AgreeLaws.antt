@@ -13,7 +13,8 @@ use Rattle.sheet.specs.Counts.{mostChannels, mostSlots, mostCodes, mostCapaciti
 use Rattle.sheet.specs.Layout.{channelAt, slotWidth}
 use Rattle.sheet.specs.Fields.{ttiOf, encodedOf, phchsOf, capacityOf}
 use Rattle.sheet.specs.Sizes.{framesIn, segmentIn, equalisedOf, equalisedAll, slotCapacity, capacityAll, bitsNeeded}
-use Rattle.sheet.specs.Numbers.{emptySlot, emptyPlace, silent, loadLines}
+use Rattle.sheet.specs.Numbers.{emptyPlace, silent, loadLines}
+use Rattle.sheet.proofs.NumberLaws.{emptySlot}
 use Rattle.sheet.specs.Range.{Ranged}
 use Rattle.sheet.specs.declared.Sheet.{Sheet}
 use Rattle.writing.specs.Written.{trimmed}

@@ -1,7 +1,8 @@
 use native.Mathlib.Omega.{arith}
 use Prim.Native.Nat.{_+_, _≤_}
 use Rattle.opening.proofs.OpenLaws.{size-is}
-use Rattle.listing.specs.Listing.{decimalOf, endText}
+use Rattle.listing.specs.Listing.{decimalOf}
+use Rattle.listing.specs.Ascii.{ascii}
 use Rattle.listing.proofs.ListLaws.{pasted-long, lists-more, line-made}
 use borrow.Author.Needs.{needs}
 use Rattle.listing.proofs.channel_line.Statement.{statement}
@@ -102,9 +103,9 @@ returns c =
           let h3 = c3 .put-pair3 .ensures .0 o _ h2 in
           let h4 = p4 .ensures .0 o _ h3 in
           line-made (a .opened .fields) (a .i) o (p .last .0) (p .result) l _ _ _ _ (c1 .before .frames .ensures .0) (c2 .before .wide .ensures .0) (size-is (a .opened) (s .pre .2) (a .i) (s .pre .3)) (c0 .before .before .share .ensures)
-          (lists-more o (p4 .last .0) (p4 .result) _ endText h4 (p .ensures .0) (p .ensures .1)),
+          (lists-more o (p4 .last .0) (p4 .result) _ (ascii "\n") h4 (p .ensures .0) (p .ensures .1)),
       omega (arith, p .ensures .0),
-      pasted-long (p4 .last .0) (p4 .result) endText (p .ensures .1) (omega (arith, s .pre .1)) (p4 .ensures .2),
+      pasted-long (p4 .last .0) (p4 .result) (ascii "\n") (p .ensures .1) (omega (arith, s .pre .1)) (p4 .ensures .2),
     )
 
 pub channel-line-spec : {M : Type 1} → statement M

@@ -1,6 +1,6 @@
 use native.Mathlib.Omega.{arith}
 use mathlib.Core.List.{[]}
-use Rattle.listing.specs.Listing.{endText}
+use Rattle.listing.specs.Ascii.{ascii}
 use Rattle.listing.proofs.ListLaws.{lists-none, lists-more, head-made}
 use borrow.Author.Needs.{needs}
 use Rattle.listing.proofs.head_line.Statement.{statement}
@@ -55,7 +55,7 @@ returns c =
     let h2 = c2 .put-pair2 .ensures .0 o _ h1 in
     let h3 = c3 .put-pair3 .ensures .0 o _ h2 in (
       head-made (s .args .opened .fields) o (p .last .0) (p .result) _ _ (d .result) (c1 .before .wide .ensures .0) (c2 .before .wide2 .ensures .0) (d .ensures .0)
-          (lists-more o _ _ _ endText h3 (p .ensures .0) (p .ensures .1)),
+          (lists-more o _ _ _ (ascii "\n") h3 (p .ensures .0) (p .ensures .1)),
       omega (arith, c1 .put-pair .ensures .1, c2 .put-pair2 .ensures .1, c3 .put-pair3 .ensures .1, p .ensures .0),
     )
 

@@ -13,7 +13,7 @@ put-listing-requires c κs = search needs
 returns : tie.Need-returns
 returns c =
     let h = c .before .put-listing .ensures in
-    (text-made (listingOf (c .before .before .before .before .args .bytes .now)) (h .0), h .1)
+    search (text-made (listingOf (c .before .before .before .before .args .bytes .now)) (h .0), h .1)
 
 pub list-sheet-spec : {M : Type 1} → statement M
 list-sheet-spec = tie.close (tie.spec slice-aggregate-put-listing put-listing-requires returns)

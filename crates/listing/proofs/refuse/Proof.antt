@@ -1,6 +1,6 @@
 use native.Mathlib.Omega.{arith}
 use mathlib.Core.List.{[]}
-use Rattle.listing.specs.Listing.{endText}
+use Rattle.listing.specs.Ascii.{ascii}
 use Rattle.listing.proofs.ListLaws.{lists-none, lists-more, refusal-made}
 use borrow.Author.Needs.{needs}
 use Rattle.listing.proofs.refuse.Statement.{statement}
@@ -28,7 +28,7 @@ returns c =
     let p = c .before .before .put in
     let q = c .before .before .before .before .before .before .before .put-pair in
     let h = q .ensures .0 o [] (lists-none o (s .pre)) in (
-      refusal-made (s .args .number) o (p .last .0) (p .result) (lists-more o _ _ _ endText h (p .ensures .0) (p .ensures .1)),
+      refusal-made (s .args .number) o (p .last .0) (p .result) (lists-more o _ _ _ (ascii "\n") h (p .ensures .0) (p .ensures .1)),
       omega (arith, q .ensures .1, p .ensures .0),
     )
 

@@ -1,4 +1,4 @@
-use mathlib.Core.Path.{_≡_, refl, sym, _∙_}
+use mathlib.Core.Path.{refl, sym, _∙_}
 use mathlib.Core.List.{[], _∷_}
 use native.Mathlib.Omega.{arith}
 use lib.Dec.{ltb}
@@ -24,7 +24,7 @@ module _ (c : tie.Else2) where
   begun : Begun (s .args .bytes .now) (frameLines (s .args .bytes .now) (s .args .frame .0)) answer
   begun =
       begun-yes (s .args .bytes .now) (s .args .frame .0) answer (c .before .before .before .open-sheet .ensures) (c .before .before .if1 .left)
-      (c .if2 .left)
+      (sym (c .before .is-over .ensures) ∙ c .if2 .left)
 
   opens : Opens (answer .opened)
   opens =
@@ -45,18 +45,22 @@ returns c =
     c .no-name .ensures
     ∙ name-no (a .bytes .now) (a .frame .0) r (begun-no (a .bytes .now) (a .frame .0) r (o .open-sheet .ensures) z) (a .slot) (a .phch .0) (a .place) z
 
+is-over-requires : tie.Need-is-over-requires
+is-over-requires c κs = search needs
+
 no-name-requires-2 : tie.Need-no-name-requires-2
 no-name-requires-2 c κs = search needs
 
 returns-2 : tie.Need-returns-2
 returns-2 c =
-    let e = c .before .before .before in
+    let v = c .before .before in
+    let e = v .before in
     let o = e .before in
     let a = o .before .before .args in
     let r = o .open-sheet .result in
     c .no-name2 .ensures
     ∙ name-no (a .bytes .now) (a .frame .0) (record { number = 9; opened = r .opened })
-    (begun-late (a .bytes .now) (a .frame .0) r (o .open-sheet .ensures) (e .if1 .left) (c .before .if2 .taken)) (a .slot) (a .phch .0) (a .place)
+    (begun-late (a .bytes .now) (a .frame .0) r (o .open-sheet .ensures) (e .if1 .left) (sym (v .is-over .ensures) ∙ c .before .if2 .taken)) (a .slot) (a .phch .0) (a .place)
     (λ q. omega arith)
 
 exists-lent-requires : tie.Need-exists-lent-requires
@@ -100,6 +104,7 @@ name-spec =
     open-sheet-requires
     no-name-requires
     returns
+    is-over-requires
     no-name-requires-2
     returns-2
     exists-lent-requires

@@ -11,7 +11,7 @@ use Rattle.laws.proofs.LaidLaws.{laid-none, laid-all, laid-long}
 use Rattle.sheet.specs.Counts.{mostCodes, mostCapacities}
 use Rattle.sheet.specs.Sizes.{slotCapacity, capacityAll}
 use Rattle.sheet.proofs.SizeLaws.{load-sum}
-use Rattle.mapping.specs.Mapping.{bitsOf}
+use Rattle.mapping.specs.Mapping.{slotUndone}
 use Rattle.frame.specs.Frame.{capsOf, slotStart, slotPart}
 use Rattle.frame.proofs.SpreadLaws.{slot-next, slot-within, one-more, slot-fits}
 use Rattle.homing.specs.Gather.{unmappedSlots}
@@ -22,7 +22,7 @@ use Rattle.homing.proofs.gathering.unmap_slots.Tie as tie
 abbrev Inv-loop : tie.InvT-loop
 Inv-loop frame fields out₀ phchs caps t₀ a₀ out t a =
     (t ≤ fields .slots) × (a ≡ slotStart fields t) × (length out ≡ length out₀)
-    × Laid out₀ out a (joined (λ k. bitsOf (capsOf fields k) nan (slotPart fields k frame)) t)
+    × Laid out₀ out a (joined (λ k. slotUndone (capsOf fields k) nan (slotPart fields k frame)) t)
 
 abbrev μ-loop : tie.MeasureT-loop
 μ-loop frame fields out₀ phchs caps t₀ a₀ out t a = fields .slots - t
@@ -132,7 +132,7 @@ loop-again c =
     let u = k .slot-load .result .sum in
     let g = m .unmap-slot .ensures ∙ slot-taken nan f (l .t) b (l .inv .1) (total k) (k2 .count2 .ensures .0) in
     let n : length (m .unmap-slot .last .1 .1 .0) ≡ l .a + u - l .a = ap length g ∙ length-taken nan f (s .pre .0) (l .t) (slotPart f (l .t) b) (omega arith) ∙ omega (arith, total k) in
-    let d = one-more (λ k. bitsOf (capsOf f k) nan (slotPart f k b)) (s .args .out .now) (l .out) (l .a) (l .a + u) (l .t) (l .inv .3) (omega arith) n g in
+    let d = one-more (λ k. slotUndone (capsOf f k) nan (slotPart f k b)) (s .args .out .now) (l .out) (l .a) (l .a + u) (l .t) (l .inv .3) (omega arith) n g in
     (omega arith, slot-next f (l .t) (l .inv .1) (total k), laid-long _ _ _ _ d (omega (arith, end k)), d)
 
 same-length : tie.Need-same-length Inv-loop μ-loop
@@ -147,7 +147,7 @@ returns c =
     let b = s .args .frame .now in
     let e : l .t ≡ f .slots = omega arith in
     let d : l .a ≡ length (s .args .out .now) = l .inv .1 ∙ ap (slotStart f) e ∙ sym (s .pre .2) in
-    laid-all _ _ _ _ (l .inv .3) d ∙ ap (joined (λ k. bitsOf (capsOf f k) nan (slotPart f k b))) e
+    laid-all _ _ _ _ (l .inv .3) d ∙ ap (joined (λ k. slotUndone (capsOf f k) nan (slotPart f k b))) e
 
 pub unmap-slots-spec : {M : Type 1} → statement M
 unmap-slots-spec =

@@ -1,17 +1,16 @@
 use native.Mathlib.Omega.{arith}
-use mathlib.Core.Path.{_≡_, refl, sym, ap, ap₂, _∙_}
-use mathlib.Core.List.{List}
+use mathlib.Core.Path.{_≡_, refl, ap, ap₂, _∙_}
 use Prim.Native.Nat.{ℕ, _+_, _*_, _-_, _%_, _≤_, _<_}
-use lib.ListN.{length, getD, take, drop}
+use lib.ListN.{length, getD}
 use Rattle.laws.specs.Sums.{sumTo}
 use Rattle.laws.proofs.SumLaws.{sum-more, sum-within}
-use Rattle.sheet.specs.Sizes.{framesOf, sizeOf, equalisedOf}
+use Rattle.sheet.specs.Sizes.{sizeOf, equalisedOf}
 use Rattle.opening.specs.Opened.{Opens}
 use Rattle.opening.specs.declared.Opened.{Opened}
 use Rattle.opening.proofs.OpenLaws.{size-is, sizes-most, cut-rises}
 use Rattle.frame.proofs.SpreadLaws.{part-length}
 use Rattle.frame.proofs.SendLaws.{cut-share, cut-within}
-use Rattle.homing.specs.Home.{partOf, channelStart}
+use Rattle.homing.specs.Home.{channelStart}
 use Rattle.homing.specs.Taking.{homeIn, takenFrom}
 use Rattle.homing.proofs.TakeLaws.{taken-next, part-at}
 use borrow.Author.Needs.{needs}

@@ -7,7 +7,7 @@ use lib.Dec.{lit<}
 use lib.ListN.{getD}
 use Rattle.orders.specs.Orders.{order}
 use Rattle.orders.proofs.OrderLaws.{order-turn}
-use Rattle.interleaving.specs.Second.{sourceOf}
+use Rattle.interleaving.specs.Second.{comesFrom}
 use Rattle.interleaving.proofs.SecondLaws.{source-below}
 use Rattle.interleaving.proofs.SecondWalk.{Passing, passing-starts, passing-more, passing-next, passing-ends}
 use Rattle.interleaving.proofs.second.source_at.Statement.{statement}
@@ -33,7 +33,7 @@ next c =
 -- the element is found
 found : (c : tie.After-loop Inv-loop μ-loop)
     → (let a = c .before .before .before .before .before .args in
-    (30 * c .before .loop .left + c .before .loop .c ≡ sourceOf (a .n) (a .j)) × (30 * c .before .loop .left + c .before .loop .c < a .n))
+    (30 * c .before .loop .left + c .before .loop .c ≡ comesFrom (a .n) (a .j)) × (30 * c .before .loop .left + c .before .loop .c < a .n))
 found c =
     let s = c .before .before .before .before .before in
     let e = passing-ends (c .before .loop .inv) (s .pre .0) (omega arith) in

@@ -4,10 +4,11 @@ use mathlib.Core.List.{List}
 use Prim.Native.Nat.{ℕ, _+_, _*_, _-_, _≤_, _<_}
 use native.Mathlib.Omega.{arith}
 use lib.ListN.{getD}
+use Rattle.counters.specs.Counting.{among}
+use Rattle.counters.proofs.CountLaws.{among-true}
 use Rattle.sheet.specs.Counts.{mostCodes}
 use Rattle.sheet.specs.Fields.{phchsOf}
-use Rattle.naming.specs.Name.{among}
-use Rattle.naming.proofs.ExistLaws.{among-true, asked-all, asked-phch, asked-slot}
+use Rattle.naming.proofs.ExistLaws.{asked-all, asked-phch, asked-slot}
 use borrow.Author.Needs.{needs}
 use Rattle.naming.proofs.existing.exists_lent.Statement.{statement}
 use Rattle.naming.proofs.existing.exists_lent.Tie as tie

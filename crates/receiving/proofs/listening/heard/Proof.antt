@@ -10,7 +10,7 @@ returns : tie.Need-returns
 returns c =
     let l = c .before in
     let a = l .before .before .before .args in
-    heard-of (a .bytes .now) (a .number .0) (a .frame .now) (a .trch .0) (l .listen .result) (a .bit .0) (l .listen .ensures)
+    heard-of (a .bytes .now) (a .number .0) (a .frame .now) (a .trch) (l .listen .result) (a .bit) (l .listen .ensures)
 
 pub heard-spec : {M : Type 1} → statement M
 heard-spec = tie.close (tie.spec listen-requires returns)

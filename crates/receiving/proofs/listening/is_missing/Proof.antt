@@ -1,78 +1,87 @@
 use native.Mathlib.Omega.{arith}
 use mathlib.Core.Path.{_≡_, sym, ap, _∙_}
 use mathlib.Core.Bool.{false}
-use Prim.Native.Nat.{ℕ, _-_, _<_}
-use borrow.Author.Tests.{not-true, not-false}
+use Prim.Native.Nat.{ℕ}
 use lib.ListN.{getD}
 use Rattle.opening.proofs.OpenLaws.{size-is}
 use Rattle.looking.specs.Looking.{noTrch}
 use Rattle.looking.proofs.LookLaws.{trch-there}
-use Rattle.receiving.proofs.ListenLaws.{missing-trch, missing-none, missing-zero, missing-past}
+use Rattle.receiving.proofs.ListenLaws.{missing-trch, missing-bit, missing-channel}
 use borrow.Author.Needs.{needs}
 use Rattle.receiving.proofs.listening.is_missing.Statement.{statement}
 use Rattle.receiving.proofs.listening.is_missing.Tie as tie
 
--- the channel is there
+-- the channel of the bit is there
 module _ (c : tie.Else1) where
-  abbrev start : tie.Start
-  start = c .before .before .before
+  abbrev arm : tie.After-wanted
+  arm = c .before .before .before
 
-  there : noTrch (start .args .opened .fields) (start .args .trch .0) ≡ false
+  abbrev start : tie.Start
+  start = arm .before .before .before
+
+  abbrev trch : ℕ
+  trch = arm .wanted .given .0 .0 .0
+
+  there : noTrch (start .args .opened .fields) trch ≡ false
   there = sym (c .before .absent .ensures) ∙ c .if1 .left
 
-  within : (0 < start .args .trch .0) × (start .args .trch .0 - 1 < start .args .opened .fields .channels)
-  within = trch-there (start .args .opened .fields) (start .args .trch .0) there
+enum-known-wanted : tie.Need-enum-known-wanted
+enum-known-wanted c = search needs
 
 absent-requires : tie.Need-absent-requires
 absent-requires c κs = search needs
 
 returns : tie.Need-returns
 returns c =
-    let a = c .before .before .before .args in
-    missing-trch (a .opened .fields) (a .trch .0) (a .bit .0) (a .one) (sym (c .before .absent .ensures) ∙ c .if1 .taken)
+    let k = c .before .before .before in
+    missing-trch (k .before .before .before .args .opened .fields) (k .wanted .given .1) (sym (c .before .absent .ensures) ∙ c .if1 .taken)
+
+index-requires : tie.Need-index-requires
+index-requires c κs = let k = c .before in trch-there (start k .args .opened .fields) (trch k) (there k) .0
+
+mul-is-among : tie.Need-mul-is-among
+mul-is-among c = search needs
+
+array-read-is-among : tie.Need-array-read-is-among
+array-read-is-among c =
+    let k = c .before .before in
+    omega (arith, trch-there (start k .args .opened .fields) (trch k) (there k), c .index .ensures, start k .pre .accepted .ranged .eight)
+
+is-among-requires : tie.Need-is-among-requires
+is-among-requires c κs = search needs
+
+enum-known-wanted-2 : tie.Need-enum-known-wanted-2
+enum-known-wanted-2 c = search needs
+
+absent-requires-2 : tie.Need-absent-requires-2
+absent-requires-2 c κs = search needs
 
 returns-2 : tie.Need-returns-2
 returns-2 c =
-    let k = c .before in
-    let a = start k .args in
-    missing-none (a .opened .fields) (a .trch .0) (a .bit .0) (not-true (a .one) (c .if2 .taken)) (there k)
+    let i = c .before in
+    let k = i .before .before in
+    let o = start k .args .opened in
+    missing-bit (o .fields) (arm k .wanted .given .1) (there k)
+    (ap (λ (j : ℕ). getD (o .sizes) j 0) (i .index .ensures) ∙ size-is o (start k .pre) _ (trch-there (o .fields) (trch k) (there k) .1))
+    (c .is-among .ensures)
 
 returns-3 : tie.Need-returns-3
 returns-3 c =
-    let a = start (c .before .before .before) .args in
-    missing-zero (a .opened .fields) (a .trch .0) (a .bit .0) (not-false (a .one) (c .before .before .if2 .left)) (c .if3 .taken)
-
-index-requires : tie.Need-index-requires
-index-requires c κs = within (c .before .before .before .before) .0
-
-mul-result : tie.Need-mul-result
-mul-result c = search needs
-
-array-read-result : tie.Need-array-read-result
-array-read-result c =
-    let k = c .before .before .before .before .before in
-    omega (arith, within k .1, start k .pre .accepted .ranged .eight)
-
-cast-result : tie.Need-cast-result
-cast-result c = search needs
-
-returns-4 : tie.Need-returns-4
-returns-4 c =
-    let k = c .before .before .before .before .before .before in
-    let a = start k .args in
-    missing-past (a .opened .fields) (a .trch .0) (a .bit .0) (not-false (a .one) (c .before .before .before .before .before .if2 .left)) (there k) (c .before .before .before .if3 .left)
-    (ap (λ (i : ℕ). getD (a .opened .sizes) i 0) (c .before .index .ensures) ∙ size-is (a .opened) (start k .pre) (a .trch .0 - 1) (within k .1))
+    let k = c .before .before in
+    missing-channel (k .before .before .before .args .opened .fields) (k .wanted2 .given .1) (c .absent2 .ensures)
 
 pub is-missing-spec : {M : Type 1} → statement M
 is-missing-spec =
     tie.close
     (tie.spec
+    enum-known-wanted
     absent-requires
     returns
-    returns-2
-    returns-3
     index-requires
-    mul-result
-    array-read-result
-    cast-result
-    returns-4)
+    mul-is-among
+    array-read-is-among
+    is-among-requires
+    enum-known-wanted-2
+    absent-requires-2
+    returns-2
+    returns-3)

@@ -10,7 +10,7 @@ returns : tie.Need-returns
 returns c =
     let l = c .before .before in
     let a = l .before .before .before .args in
-    link-of (a .bytes .now) (a .number .0) (a .frame .now) (a .trch .0) (l .listen .result) 0 (l .listen .ensures)
+    search (link-of (a .bytes .now) (a .number .0) (a .frame .now) (a .trch) (l .listen .result) (l .listen .ensures))
 
 pub link-spec : {M : Type 1} → statement M
 link-spec = tie.close (tie.spec listen-requires returns)

@@ -1,4 +1,4 @@
-use mathlib.Core.Path.{_≡_, sym, _∙_, subst}
+use mathlib.Core.Path.{_≡_, sym, _∙_}
 use mathlib.Core.Bool.{false}
 use mathlib.Core.List.{[], _∷_}
 use lib.Dec.{ltb}
@@ -6,12 +6,10 @@ use Rattle.counters.specs.Lines.{line}
 use Rattle.joining.specs.Range.{inRange}
 use Rattle.opening.specs.Opened.{Opens}
 use Rattle.opening.specs.declared.OpenAnswer.{OpenAnswer}
-use Rattle.homing.specs.Receiving.{Askable}
-use Rattle.homing.specs.declared.receiving.Asked.{Asked}
 use Rattle.looking.specs.Looking.{lastFrame}
 use Rattle.looking.proofs.LookLaws.{begun-opens, look-long}
 use Rattle.receiving.specs.Listened.{missing}
-use Rattle.receiving.proofs.ListenLaws.{found-trch, found-bit, askable, listen-no, listen-missing, listen-looked, listen-yes}
+use Rattle.receiving.proofs.ListenLaws.{askable, listen-no, listen-missing, listen-looked, listen-yes}
 use borrow.Author.Needs.{needs}
 use Rattle.receiving.proofs.listening.listen.Statement.{statement}
 use Rattle.receiving.proofs.listening.listen.Tie as tie
@@ -29,12 +27,12 @@ module _ (c : tie.After-opened) where
       let a = start .args in
       begun-opens (a .bytes .now) (line (ltb lastFrame (a .number .0)) 9 ∷ []) answer (c .before .before .before .open-frame .ensures) (c .before .if1 .left)
 
--- what is asked for is there
+-- what is wanted is there
 module _ (c : tie.Else2) where
   abbrev k : tie.After-opened
   k = c .before .before
 
-  there : missing (start k .args .one) (answer k .opened .fields) (start k .args .trch .0) (start k .args .bit .0) ≡ false
+  there : missing (answer k .opened .fields) (start k .args .wanted) ≡ false
   there = sym (c .before .is-missing .ensures) ∙ c .if2 .left
 
 open-frame-requires : tie.Need-open-frame-requires
@@ -48,7 +46,7 @@ returns c =
     let o = c .before .before .before in
     let a = o .before .before .before .args in
     c .refused .ensures
-    ∙ listen-no (a .one) (a .bytes .now) (a .number .0) (a .frame .now) (a .trch .0) (a .bit .0) (o .open-frame .result) (o .open-frame .ensures) (c .before .if1 .taken)
+    ∙ listen-no (a .bytes .now) (a .number .0) (a .frame .now) (a .wanted) (o .open-frame .result) (o .open-frame .ensures) (c .before .if1 .taken)
 
 is-missing-requires : tie.Need-is-missing-requires
 is-missing-requires c κs = opens c
@@ -62,7 +60,7 @@ returns-2 c =
     let o = m .before .before .before .before in
     let a = o .before .before .before .args in
     c .refused2 .ensures
-    ∙ listen-missing (a .one) (a .bytes .now) (a .number .0) (a .frame .now) (a .trch .0) (a .bit .0) (o .open-frame .result) (o .open-frame .ensures)
+    ∙ listen-missing (a .bytes .now) (a .number .0) (a .frame .now) (a .wanted) (o .open-frame .result) (o .open-frame .ensures)
     (m .before .before .if1 .left) (m .is-missing .ensures) (c .before .if2 .taken)
 
 capacity-requires : tie.Need-capacity-requires
@@ -81,40 +79,32 @@ returns-3 c =
     let o = k e .before .before .before in
     let a = start (k e) .args in
     c .refused3 .ensures
-    ∙ listen-looked (a .one) (a .bytes .now) (a .number .0) (a .frame .now) (a .trch .0) (a .bit .0) (o .open-frame .result) (o .open-frame .ensures)
+    ∙ listen-looked (a .bytes .now) (a .number .0) (a .frame .now) (a .wanted) (o .open-frame .result) (o .open-frame .ensures)
     (k e .before .if1 .left) (there e) (l .before .capacity .ensures .0) (l .look-soft .result) (l .look-soft .ensures) (c .before .if3 .taken)
-
-asked-for-requires : tie.Need-asked-for-requires
-asked-for-requires c κs =
-    let e = c .before .before .before .before in
-    let a = start (k e) .args in
-    let sh = answer (k e) .opened .fields in
-    (found-trch sh (a .trch .0) (a .bit .0) (a .one) (there e) .0, λ q. found-bit sh (a .trch .0) (a .bit .0) (there e) q .0)
 
 slice-aggregate-receive : tie.Need-slice-aggregate-receive
 slice-aggregate-receive c = search needs
 
 receive-requires : tie.Need-receive-requires
 receive-requires c κs =
-    let l = c .before .before .before .before in
+    let l = c .before .before .before in
     let e = l .before .before in
-    let a = start (k e) .args in
-    let sh = answer (k e) .opened .fields in (
+    let a = start (k e) .args in (
       opens (k e),
-      look-long inRange (a .frame .now) (l .before .capacity .result) 0 0 (l .look-soft .result) (l .look-soft .ensures) (c .before .before .if3 .left) .0 ∙ l .before .capacity .ensures .0,
-      subst (λ (x : Asked). Askable sh x 1) (sym (c .before .asked-for .ensures)) (askable sh (a .trch .0) (a .bit .0) (a .one) 1 (there e)),
+      look-long inRange (a .frame .now) (l .before .capacity .result) 0 0 (l .look-soft .result) (l .look-soft .ensures) (c .before .if3 .left) .0 ∙ l .before .capacity .ensures .0,
+      askable (answer (k e) .opened .fields) (a .wanted) 1 (there e),
     )
 
 returns-4 : tie.Need-returns-4
 returns-4 c =
     let f = c .before .before .before in
-    let l = f .before .before .before in
+    let l = f .before .before in
     let e = l .before .before in
     let o = k e .before .before .before in
     let a = start (k e) .args in
-    listen-yes (a .one) (a .bytes .now) (a .number .0) (a .frame .now) (a .trch .0) (a .bit .0) (o .open-frame .result) (o .open-frame .ensures)
-    (k e .before .if1 .left) (there e) (l .before .capacity .ensures .0) (l .look-soft .result) (l .look-soft .ensures) (f .before .if3 .left)
-    (c .before .receive .ensures .0) (f .asked-for .ensures)
+    listen-yes (a .bytes .now) (a .number .0) (a .frame .now) (a .wanted) (o .open-frame .result) (o .open-frame .ensures)
+    (k e .before .if1 .left) (there e) (l .before .capacity .ensures .0) (l .look-soft .result) (l .look-soft .ensures) (f .if3 .left)
+    (c .before .receive .ensures .0)
 
 pub listen-spec : {M : Type 1} → statement M
 listen-spec =
@@ -130,7 +120,6 @@ listen-spec =
     look-soft-requires
     refused-requires-3
     returns-3
-    asked-for-requires
     slice-aggregate-receive
     receive-requires
     returns-4)

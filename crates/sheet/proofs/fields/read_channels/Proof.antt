@@ -2,7 +2,7 @@ use native.Mathlib.Omega.{arith}
 use mathlib.Core.Path.{_≡_, refl, ap, _∙_}
 use Prim.Native.Nat.{_-_, _≤_}
 use Rattle.laws.specs.Tables.{table}
-use Rattle.sheet.specs.Fields.{channelsTo}
+use Rattle.sheet.specs.Reading.{channelsTo}
 use Rattle.sheet.proofs.SlotLaws.{channels-more}
 use Rattle.sheet.proofs.fields.read_channels.Statement.{statement}
 use Rattle.sheet.proofs.fields.read_channels.Tie as tie

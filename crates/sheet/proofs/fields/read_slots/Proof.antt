@@ -5,7 +5,8 @@ use Rattle.laws.specs.Tables.{table}
 use Rattle.bits.specs.Bits.{bitsAt}
 use Rattle.sheet.specs.Counts.{mostCodes}
 use Rattle.sheet.specs.Layout.{codesWidth, capacityWidth, slotWidth}
-use Rattle.sheet.specs.Fields.{slotFrom, phchsIn, slotsTo}
+use Rattle.sheet.specs.Fields.{slotFrom, phchsIn}
+use Rattle.sheet.specs.Reading.{slotsTo}
 use Rattle.sheet.proofs.SlotLaws.{phchs-most, slot-next, slot-begun, slot-more, slot-done}
 use Rattle.sheet.proofs.fields.read_slots.Statement.{statement}
 use Rattle.sheet.proofs.fields.read_slots.Tie as tie

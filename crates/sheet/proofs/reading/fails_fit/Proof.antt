@@ -7,7 +7,7 @@ use Rattle.laws.proofs.TestLaws.{or-first, or-second, or-third, or-none}
 use Rattle.bits.specs.Bits.{bitsAt}
 use Rattle.sheet.specs.Fields.{sheetOf}
 use Rattle.sheet.specs.Sizes.{bitsNeeded}
-use Rattle.sheet.specs.Numbers.{wrongLength, spareSet, paddingSet}
+use Rattle.sheet.proofs.NumberLaws.{wrongLength, spareSet, paddingSet}
 use borrow.Author.Needs.{needs}
 use Rattle.sheet.proofs.reading.fails_fit.Statement.{statement}
 use Rattle.sheet.proofs.reading.fails_fit.Tie as tie

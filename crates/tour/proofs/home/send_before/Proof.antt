@@ -1,5 +1,7 @@
-use mathlib.Core.Path.{_≡_}
-use Prim.Native.Nat.{_-_}
+use mathlib.Core.Path.{_≡_, sym, _∙_}
+use Prim.Native.Nat.{_-_, _<_}
+use native.Mathlib.Omega.{arith}
+use borrow.Author.Tests.{ltb-true}
 use lib.ListN.{length}
 use borrow.Author.Needs.{needs}
 use Rattle.tour.proofs.home.send_before.Statement.{statement}
@@ -12,17 +14,23 @@ Inv-loop sheet first number contents frame₀ heard₀ joined₀ none n₀ frame
 abbrev μ-loop : tie.MeasureT-loop
 μ-loop sheet first number contents frame₀ heard₀ joined₀ none n₀ frame heard joined n = number .0 - n
 
+earlier : (c : tie.Then1 Inv-loop μ-loop) → c .before .before .loop .n < c .before .before .before .before .before .before .before .before .args .number .0
+earlier c = ltb-true _ _ (sym (c .before .is-over .ensures) ∙ c .if1 .taken)
+
 loop-holds : tie.Need-loop-holds Inv-loop μ-loop
 loop-holds c = search needs
+
+is-over-requires : tie.Need-is-over-requires Inv-loop μ-loop
+is-over-requires c κs = search needs
 
 send-requires : tie.Need-send-requires Inv-loop μ-loop
 send-requires c κs = search needs
 
 add-n : tie.Need-add-n Inv-loop μ-loop
-add-n c = search needs
+add-n c = omega (arith, earlier (c .before .before .before .before .before .before .before .before .before .before))
 
 loop-less : tie.Need-loop-less Inv-loop μ-loop
-loop-less c = search needs
+loop-less c = omega (arith, earlier (c .before .before .before .before .before .before .before .before .before .before))
 
 loop-again : tie.Need-loop-again Inv-loop μ-loop
 loop-again c = search needs
@@ -46,6 +54,7 @@ send-before-spec =
     Inv-loop
     μ-loop
     loop-holds
+    is-over-requires
     send-requires
     add-n
     loop-less

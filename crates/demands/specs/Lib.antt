@@ -1,0 +1,6 @@
+pub mod Demanded
+pub mod Exactly
+pub mod Answers
+pub mod Table
+pub mod Calls
+pub mod Words
