@@ -26,7 +26,7 @@ pins() {
 # Prints `path file name lines`, or `pinned ..` or `demands ..`, for each thing; MISSING for a name that a file brings and nobody defines, a
 # theorem that is not there, or a call with a `requires`.
 derive() {
-    find crates \( -path '*/src/*.rt' -o -path '*/specs/*.antt' -o -path 'crates/*/proofs/*.antt' -not -name Proof.antt \) | sort | xargs awk -v "pins=$(pins)" '
+    find crates \( -path '*/src/*.rt' -o -path '*/specs/*.antt' -o -path 'crates/*/proofs/*.antt' -not -name Proof.antt \) | sort | PINS=$(pins) xargs awk '
     function source(crate, modules) { return "crates/" crate "/src/" (modules == "" ? "lib" : modules) ".rt" }
 
     # use Rattle.crate.specs.Module.{a, b}; ..Module as M; ..specs.declared.module.Type.{..}, with or without .the-variants; ..proofs.Module.{..}
@@ -119,7 +119,7 @@ derive() {
         }
     }
     END {
-        n = split(pins, pin, "\n")
+        n = split(ENVIRON["PINS"], pin, "\n")
         for (i = 1; i <= n; i++) { split(pin[i], at, " "); thing = at[1] " " at[2]; pinned[thing] = pinned[thing] at[3] " " at[4] "\n" }
         calls["crates/listing/src/lib.rt list_sheet"] = 1
         kind = "path"; k = 1
