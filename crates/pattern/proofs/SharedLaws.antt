@@ -1,5 +1,5 @@
 -- Step 6's way back over its own text: the shares of the bits are the values, one after the other; the share of a bit is what the text sends of it, copy
--- 0, 1, .. in order; and how many it has does not depend on what the values are. The three leave no other `shared`.
+-- 0, 1, .. in order; and how many it has does not depend on what the values are. With `length-shared` of MatchedLaws they leave no other `shared`.
 use mathlib.Core.Path.{_≡_, sym, ap, ap₂, _∙_}
 use mathlib.Core.List.{List, [], _++_}
 use Prim.Native.Nat.{ℕ, zero, suc, _-_, _≤_, _<_, min}

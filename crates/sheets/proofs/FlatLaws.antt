@@ -5,7 +5,7 @@ use Prim.Native.Nat.{ℕ, _+_, _≤_, _<_}
 use native.Mathlib.Nat.{add-zero}
 use native.Mathlib.Omega.{arith}
 use lib.ListN.{length, getD, take, drop, length-append, length-drop}
-use lib.Seq.{ext-getD, getD-take, getD-drop, length-take-le, take-at, take-add, take-all, drop-append-add}
+use lib.Seq.{ext-getD, getD-take, getD-drop, length-take-le, take-at, drop-append-add}
 use Rattle.laws.proofs.LaidLaws.{laid-none, laid-more, laid-all}
 use Rattle.sheet.specs.Counts.{mostChannels, mostSlots, mostCapacities}
 use Rattle.sheet.specs.declared.Sheet.{Sheet}
@@ -98,20 +98,3 @@ flat-back sh k =
       k .rm,
       k .phchs,
     )) (k .caps))))
-
--- and the row of the fields that were taken out is the row: there is no other way to take them out
-next-part : (l x : List ℕ) (a b : ℕ) → x ≡ take a l → x ++ take b (drop a l) ≡ take (a + b) l
-next-part l x a b e = ap (λ (y : List ℕ). y ++ take b (drop a l)) e ∙ sym (take-add a b l)
-
-pub flat-again : (l : List ℕ) → length l ≡ flatCount → flatOf (sheetFrom l) ≡ l
-unfolding flatOf sheetFrom
-flat-again [] e = absurd (omega arith)
-flat-again (v ∷ []) e = absurd (omega arith)
-flat-again (v ∷ m ∷ []) e = absurd (omega arith)
-flat-again (v ∷ m ∷ i ∷ []) e = absurd (omega arith)
-flat-again (v ∷ m ∷ i ∷ t ∷ r) e =
-    let l = v ∷ m ∷ i ∷ t ∷ r in
-    next-part l _ capsFrom mostCapacities
-    (next-part l _ phchsFrom mostSlots
-    (next-part l _ ratioFrom mostChannels (next-part l _ encodedFrom mostChannels (next-part l (v ∷ m ∷ i ∷ t ∷ []) ttiFrom mostChannels refl))))
-    ∙ take-all flatCount l (omega arith)
