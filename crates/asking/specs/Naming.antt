@@ -4,7 +4,7 @@ use mathlib.Core.List.{List, [], _∷_, _++_}
 use Prim.Native.Nat.{ℕ}
 use Rattle.counters.specs.Lines.{Line, line, firstOf, given}
 use Rattle.sheet.specs.Fields.{sheetOf}
-use Rattle.naming.specs.Name.{Name, nameOf, hasPlace}
+use Rattle.naming.specs.Name.{Name, nameOf, hasPlace, onlySubframe}
 use Rattle.looking.specs.Looking.{frameLines}
 
 pub record Naming : Type 0 where
@@ -24,11 +24,11 @@ noName = record { channel = 0; bit = 0; copy = 0 }
 
 -- 1 to 9, then 10 where the slot, the PhCH or the place does not exist
 abbrev pub nameLines : List ℕ → ℕ → ℕ → ℕ → ℕ → List Line
-nameLines s frame slot phch place = frameLines s frame ++ line (not (hasPlace (sheetOf s) slot phch place)) 10 ∷ []
+nameLines s frame slot phch place = frameLines s frame ++ line (not (hasPlace (sheetOf s) onlySubframe slot phch place)) 10 ∷ []
 
 abbrev pub nameNumber : List ℕ → ℕ → ℕ → ℕ → ℕ → ℕ
 nameNumber s frame slot phch place = firstOf (nameLines s frame slot phch place)
 
 abbrev pub nameAnswer : List ℕ → ℕ → ℕ → ℕ → ℕ → Naming
 nameAnswer s frame slot phch place =
-    naming (nameNumber s frame slot phch place) (given (nameNumber s frame slot phch place) (nameOf (sheetOf s) frame slot phch place) noName)
+    naming (nameNumber s frame slot phch place) (given (nameNumber s frame slot phch place) (nameOf (sheetOf s) frame onlySubframe slot phch place) noName)

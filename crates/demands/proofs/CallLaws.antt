@@ -22,7 +22,7 @@ use Rattle.writing.specs.Numbers.{fieldLines, writeLines}
 use Rattle.writing.specs.Written.{bytesOf, lengthAnswer}
 use Rattle.frame.specs.Frame.{spread, multiplexedBits, bitFrame}
 use Rattle.frame.specs.Bit.{isBit}
-use Rattle.naming.specs.Name.{nameOf}
+use Rattle.naming.specs.Name.{nameOf, onlySubframe}
 use Rattle.joining.specs.Joining.{valueOf, countOf, plusZero}
 use Rattle.joining.specs.Range.{inRange}
 use Rattle.joining.specs.declared.Heard.{Heard}
@@ -145,7 +145,7 @@ channel-law s k a e =
 pub name-law : (s : List ℕ) (frame slot phch place : ℕ) (a : Naming) → a ≡ nameAnswer s frame slot phch place
     → NameCall s frame slot phch place (a .number) (a .name)
 name-law s frame slot phch place a e =
-    answers (name-means s frame slot phch place) refl (nameOf (sheetOf s) frame slot phch place) noName
+    answers (name-means s frame slot phch place) refl (nameOf (sheetOf s) frame onlySubframe slot phch place) noName
     (ap (λ (x : Naming). x .number) e) (ap (λ (x : Naming). x .name) e)
 
 pub part-law : (s : List ℕ) (k n : ℕ) (a : PartAnswer) → a ≡ partAnswer s k n → PartCall s k n (a .number) (a .start, a .length)

@@ -20,7 +20,7 @@ use Rattle.sheet.specs.Numbers.{emptyPlace, silent}
 use Rattle.sheet.specs.declared.Sheet.{Sheet}
 use Rattle.writing.specs.Numbers.{outside, channelOutside, slotOutside, fieldOutside}
 use Rattle.frame.specs.Bit.{isBit}
-use Rattle.naming.specs.Name.{hasPlace}
+use Rattle.naming.specs.Name.{hasPlace, onlySubframe}
 use Rattle.naming.proofs.ExistLaws.{exists}
 use Rattle.joining.specs.Range.{inRange}
 use Rattle.looking.specs.Looking.{noTrch}
@@ -87,8 +87,8 @@ trch-means sh k = either (same k 0) (below (sh .channels) k)
 pub bit-means : (sh : Sheet) (k b : ℕ) → (noBit sh k b ≡ true) ↔ MissingBit sh k b
 bit-means sh k b = either (trch-means sh k) (either (same b 0) (below (sizeOf sh (k - 1)) b))
 
-pub place-means : (sh : Sheet) (slot phch place : ℕ) → (not (hasPlace sh slot phch place) ≡ true) ↔ MissingPlace sh slot phch place
-place-means sh slot phch place = opposite (exists sh slot phch place)
+pub place-means : (sh : Sheet) (slot phch place : ℕ) → (not (hasPlace sh onlySubframe slot phch place) ≡ true) ↔ MissingPlace sh slot phch place
+place-means sh slot phch place = opposite (exists sh onlySubframe slot phch place)
 
 -- 12
 pub bad-byte : (x : ℕ) → (isBit x ≡ false) ↔ BadByte x

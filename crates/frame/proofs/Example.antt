@@ -4,9 +4,10 @@ use mathlib.Core.List.{[], _∷_}
 use Prim.Native.Nat.{_+_}
 use Rattle.laws.specs.Sums.{sumTo}
 use Rattle.laws.specs.Tables.{table}
-use Rattle.laws.specs.Joined.{joined}
+use Rattle.laws.specs.Joined.{joined, inRows}
 use Rattle.bits.specs.Bits as Bits
 use Rattle.sheet.specs.Fields.{slotFrom, sheetOf}
+use Rattle.sheet.specs.Sizes.{subframesOf}
 use Rattle.orders.specs.Orders.{orders, columnAt, rowOf, order}
 use Rattle.offset.specs.Ints.{floorDiv, floorOver, ceilOver, modOver}
 use Rattle.offset.specs.Offset.{remainderOf, qOf, euclid, gcd, addedOf, qF, yOf, filled, S, startOf}
@@ -16,14 +17,14 @@ use Rattle.interleaving.specs.Columns.{column, columns}
 use Rattle.interleaving.specs.First.{equalised, firstInterleaved, segmentOf}
 use Rattle.interleaving.specs.Second.{secondInterleaved}
 use Rattle.mapping.specs.Mapping.{passed, oneMore, onward, taker, afterBit, posOf, place, run, mapped}
-use Rattle.frame.specs.Frame.{startAt, sentOf, multiplexed, capsOf, slotPart, slotBits, spread, frameOf, contentsOf, bitsOf, bitFrame}
+use Rattle.frame.specs.Frame.{startAt, sentOf, multiplexed, capsOf, runsOf, slotPart, slotBits, spread, frameOf, contentsOf, bitsOf, bitFrame}
 
 -- 10 10 00 06 00 00 04: E = 6, F = 1, D = 4. Contents 1,0,1,1,0,0 give the frame 0,0,1,0
 pub sheet-bits : bitFrame (sheetOf (16 ∷ 16 ∷ 0 ∷ 6 ∷ 0 ∷ 0 ∷ 4 ∷ [])) 0 (1 ∷ 0 ∷ 1 ∷ 1 ∷ 0 ∷ 0 ∷ []) ≡ 0 ∷ 0 ∷ 1 ∷ 0 ∷ []
-unfolding sheetOf slotFrom table Bits.val Bits.bitAt sumTo joined orders columnAt rowOf order floorDiv floorOver ceilOver modOver remainderOf qOf euclid gcd addedOf qF yOf filled S startOf puncturedText whileLow repeatedText matchedText column columns firstInterleaved segmentOf secondInterleaved passed oneMore onward taker afterBit posOf place run mapped startAt sentOf multiplexed capsOf slotPart slotBits spread frameOf equalised contentsOf bitsOf bitFrame
+unfolding sheetOf slotFrom subframesOf table Bits.val Bits.bitAt sumTo joined inRows orders columnAt rowOf order floorDiv floorOver ceilOver modOver remainderOf qOf euclid gcd addedOf qF yOf filled S startOf puncturedText whileLow repeatedText matchedText column columns firstInterleaved segmentOf secondInterleaved passed oneMore onward taker afterBit posOf place run mapped startAt sentOf multiplexed capsOf runsOf slotPart slotBits spread frameOf equalised contentsOf bitsOf bitFrame
 sheet-bits = refl
 
 -- E = 40, F = 4, D = 7: N = 10, d = -3, and in frame 1 e starts at 7. Of bits 1 to 40, column 2 is sent without its bits 2, 5 and 8
 pub second-frame : frameOf asIs (sheetOf (16 ∷ 16 ∷ 128 ∷ 40 ∷ 0 ∷ 0 ∷ 7 ∷ [])) 1 (λ i. table (λ k. k + 1) 0 40) ≡ 3 ∷ 35 ∷ 23 ∷ 11 ∷ 39 ∷ 27 ∷ 15 ∷ []
-unfolding sheetOf slotFrom table Bits.val Bits.bitAt sumTo joined orders columnAt rowOf order floorDiv floorOver ceilOver modOver remainderOf qOf euclid gcd addedOf qF yOf filled S startOf puncturedText whileLow repeatedText matchedText column columns firstInterleaved segmentOf secondInterleaved passed oneMore onward taker afterBit posOf place run mapped startAt sentOf multiplexed capsOf slotPart slotBits spread frameOf
+unfolding sheetOf slotFrom subframesOf table Bits.val Bits.bitAt sumTo joined inRows orders columnAt rowOf order floorDiv floorOver ceilOver modOver remainderOf qOf euclid gcd addedOf qF yOf filled S startOf puncturedText whileLow repeatedText matchedText column columns firstInterleaved segmentOf secondInterleaved passed oneMore onward taker afterBit posOf place run mapped startAt sentOf multiplexed capsOf runsOf slotPart slotBits spread frameOf
 second-frame = refl

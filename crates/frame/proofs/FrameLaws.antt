@@ -3,7 +3,7 @@ use mathlib.Core.Path.{_≡_, refl, sym, ap, _∙_, subst}
 use mathlib.Core.Bool.{Bool, true, false, cond}
 use mathlib.Core.List.{List, map}
 use Prim.Native.Nat.{ℕ, suc, _+_, _*_, _%_, _≤_, _<_}
-use native.Mathlib.Nat.{mod-lt}
+use native.Mathlib.Nat.{mod-lt, suc-mul, mul-add, mul-le-mul-left, mul-le-mul-right}
 use native.Mathlib.Numerals.{add-one}
 use native.Mathlib.Omega.{arith}
 use lib.Dec.{eqb}
@@ -13,9 +13,10 @@ use Rattle.laws.specs.Sums.{sumTo}
 use Rattle.laws.proofs.SumLaws.{sum-same, sum-within}
 use Rattle.laws.proofs.PartLaws.{take-map, drop-map}
 use Rattle.laws.proofs.JoinedLaws.{Begins, length-joined, map-joined, joined-same}
+use Rattle.laws.proofs.RowLaws.{row-room, length-rows, rows-same, map-rows}
 use Rattle.sheet.specs.Counts.{mostCodes}
 use Rattle.sheet.specs.Fields.{ttiOf, phchsOf, capacityOf}
-use Rattle.sheet.specs.Sizes.{framesOf, sizeOf, equalisedOf, slotCapacity, capacityAll}
+use Rattle.sheet.specs.Sizes.{framesOf, sizeOf, equalisedOf, slotCapacity, subframesOf, capacityAll}
 use Rattle.sheet.specs.Range.{Accepted}
 use Rattle.sheet.specs.declared.Sheet.{Sheet}
 use Rattle.orders.specs.Orders.{columnAt}
@@ -32,10 +33,10 @@ use Rattle.interleaving.specs.First.{segmentOf}
 use Rattle.interleaving.specs.Second.{secondInterleaved}
 use Rattle.interleaving.proofs.FirstLaws.{segment-length, segment-at, segment-map}
 use Rattle.interleaving.proofs.SecondLaws.{second-length, second-map}
-use Rattle.mapping.specs.Mapping.{ones, at, slotSize, slotOf}
+use Rattle.mapping.specs.Mapping.{ones, at, slotSize}
 use Rattle.mapping.proofs.MappedLaws.{mapped-length, mapped-map}
 use Rattle.opening.proofs.OpenLaws.{weighs}
-use Rattle.frame.specs.Frame.{startAt, sentOf, multiplexed, capsOf, slotStart, slotPart, slotBits, spread, frameOf}
+use Rattle.frame.specs.Frame.{startAt, sentOf, multiplexed, capsOf, runsOf, slotStart, subframeStart, slotPart, slotShare, sharePart, slotBits, slotMapped, spread, frameOf}
 
 -- ---- steps 4 to 7
 
@@ -140,37 +141,73 @@ module _ (sh : Sheet) (ok : Accepted sh) (t : ℕ) (l : t < sh .slots) where
   pub caps-size : slotSize (capsOf sh t) ≡ slotCapacity sh t
   caps-size = ap (sumTo (at (capsOf sh t))) caps-length ∙ sum-same (at (capsOf sh t)) (capacityOf sh t) (phchsOf sh t) (caps-at sh t)
 
+-- ---- sub-frames and runs
+
+-- bits go one at a time, so that a run is never empty
+pub runs-ones : (sh : Sheet) (t : ℕ) → runsOf sh t ≡ ones
+unfolding runsOf
+runs-ones sh t = refl
+
+pub runs-some : (sh : Sheet) (t p : ℕ) → 0 < runsOf sh t p
+unfolding runsOf
+runs-some sh t p = omega arith
+
 -- ---- steps 8 and 9
 
-pub slot-room : (sh : Sheet) (t : ℕ) → t < sh .slots → slotStart sh t + slotCapacity sh t ≤ capacityAll sh
-slot-room sh t l = sum-within (slotCapacity sh) t (sh .slots) l
+module _ (sh : Sheet) (t : ℕ) (l : t < sh .slots) where
+  -- the slot lies within a sub-frame, in the frame, and in the multiplexed elements
+  pub slot-room : (h : ℕ) → h < subframesOf sh → subframeStart sh h + slotStart sh t + slotCapacity sh t ≤ capacityAll sh
+  slot-room h k = row-room (slotCapacity sh) (subframesOf sh) (sh .slots) h t k l
 
-pub length-slot-part : {A : Type 0} (sh : Sheet) (xs : List A) → length xs ≡ capacityAll sh → (t : ℕ) → t < sh .slots
-    → length (slotPart sh t xs) ≡ slotCapacity sh t
-unfolding slotPart
-length-slot-part sh xs full t l = rw (length-take, length-drop, full) (omega (arith, slot-room sh t l))
+  pub share-room : subframesOf sh * slotStart sh t + subframesOf sh * slotCapacity sh t ≤ capacityAll sh
+  share-room =
+      omega (
+        arith,
+        mul-le-mul-left (subframesOf sh) (sum-within (slotCapacity sh) t (sh .slots) l),
+        mul-add (subframesOf sh) (slotStart sh t) (slotCapacity sh t),
+      )
+
+  -- sub-frame h of the slot's share
+  pub share-part-room : (h : ℕ) → h < subframesOf sh → h * slotCapacity sh t + slotCapacity sh t ≤ subframesOf sh * slotCapacity sh t
+  share-part-room h k = omega (arith, mul-le-mul-right {m = suc h} {n = subframesOf sh} (slotCapacity sh t) k, suc-mul h (slotCapacity sh t))
+
+  module _ {A : Type 0} where
+    pub length-slot-part : (xs : List A) → length xs ≡ capacityAll sh → (h : ℕ) → h < subframesOf sh → length (slotPart sh h t xs) ≡ slotCapacity sh t
+    unfolding slotPart
+    length-slot-part xs full h k = rw (length-take, length-drop, full) (omega (arith, slot-room h k))
+
+    pub length-share : (xs : List A) → length xs ≡ capacityAll sh → length (slotShare sh t xs) ≡ subframesOf sh * slotCapacity sh t
+    unfolding slotShare
+    length-share xs full = rw (length-take, length-drop, full) (omega (arith, share-room))
+
+    pub length-share-part : (ys : List A) → length ys ≡ subframesOf sh * slotCapacity sh t → (h : ℕ) → h < subframesOf sh
+        → length (sharePart sh h t ys) ≡ slotCapacity sh t
+    unfolding sharePart
+    length-share-part ys full h k = rw (length-take, length-drop, full) (omega (arith, share-part-room h k))
+
+    -- what mode 1 makes of a slot's share, for one sub-frame
+    pub length-share-made : (xs : List A) → length xs ≡ capacityAll sh → (h : ℕ) → h < subframesOf sh
+        → length (sharePart sh h t (secondInterleaved (slotShare sh t xs))) ≡ slotCapacity sh t
+    length-share-made xs full h k = length-share-part (secondInterleaved (slotShare sh t xs)) (second-length (slotShare sh t xs) ∙ length-share xs full) h k
+
+    pub length-mapped : (p : List A) → length (slotMapped sh t p) ≡ length p
+    length-mapped p = mapped-length (at (capsOf sh t)) (runsOf sh t) (length (capsOf sh t)) p p
 
 module _ {A : Type 0} (sh : Sheet) (xs : List A) (full : length xs ≡ capacityAll sh) where
-  pub length-slot-bits : (t : ℕ) → t < sh .slots → length (slotBits sh xs t) ≡ slotCapacity sh t
+  pub length-slot-bits : (h t : ℕ) → h < subframesOf sh → t < sh .slots → length (slotBits sh xs h t) ≡ slotCapacity sh t
   unfolding slotBits
-  length-slot-bits t l = by (eqb (sh .mode) 0)
+  length-slot-bits h t k l = by (eqb (sh .mode) 0)
     where
-      by : (b : Bool) → length (cond b (slotPart sh t (secondInterleaved xs)) (secondInterleaved (slotPart sh t xs))) ≡ slotCapacity sh t
-      by true = length-slot-part sh (secondInterleaved xs) (second-length xs ∙ full) t l
-      by false = second-length (slotPart sh t xs) ∙ length-slot-part sh xs full t l
+      by : (b : Bool) → length (cond b (slotPart sh h t (secondInterleaved xs)) (sharePart sh h t (secondInterleaved (slotShare sh t xs)))) ≡ slotCapacity sh t
+      by true = length-slot-part sh t l (secondInterleaved xs) (second-length xs ∙ full) h k
+      by false = length-share-made sh t l xs full h k
 
-  pub length-slot : (t : ℕ) → t < sh .slots → length (slotOf (capsOf sh t) (slotBits sh xs t) (slotBits sh xs t)) ≡ slotCapacity sh t
-  length-slot t l =
-      mapped-length (at (capsOf sh t)) ones (length (capsOf sh t)) (slotBits sh xs t) (slotBits sh xs t) ∙ length-slot-bits t l
-
-  pub slots-begin : Begins (λ t. slotOf (capsOf sh t) (slotBits sh xs t) (slotBits sh xs t)) (slotStart sh) (sh .slots)
-  unfolding sumTo
-  slots-begin = record { first = refl; next = λ t l. ap (λ (n : ℕ). slotStart sh t + n) (sym (length-slot t l)) }
+  pub length-slot : (h t : ℕ) → h < subframesOf sh → t < sh .slots → length (slotMapped sh t (slotBits sh xs h t)) ≡ slotCapacity sh t
+  length-slot h t k l = length-mapped sh t l (slotBits sh xs h t) ∙ length-slot-bits h t k l
 
   pub length-spread : length (spread sh xs) ≡ capacityAll sh
   unfolding spread
-  length-spread =
-      length-joined (λ t. slotOf (capsOf sh t) (slotBits sh xs t) (slotBits sh xs t)) (slotStart sh) (sh .slots) slots-begin
+  length-spread = length-rows (slotCapacity sh) (λ h t. slotMapped sh t (slotBits sh xs h t)) (subframesOf sh) (sh .slots) length-slot
 
 pub length-frame : {A B : Type 0} (f : A → ℕ → B) (sh : Sheet) → Accepted sh → (frame : ℕ) (ts : ℕ → List A)
     → ((i : ℕ) → i < sh .channels → length (ts i) ≡ equalisedOf sh i) → length (frameOf f sh frame ts) ≡ capacityAll sh
@@ -180,28 +217,23 @@ length-frame f sh ok frame ts full = length-spread sh (multiplexed f sh frame ts
 -- ---- S4: a map of what is sent is a map of the frame, and a map of the elements is a map of what is sent
 
 module _ {A B : Type 0} (g : A → B) (sh : Sheet) where
-  slot-part-map : (t : ℕ) (xs : List A) → slotPart sh t (map g xs) ≡ map g (slotPart sh t xs)
-  unfolding slotPart
-  slot-part-map t xs = rw (drop-map, take-map)
-
-  slot-bits-map : (xs : List A) (t : ℕ) → slotBits sh (map g xs) t ≡ map g (slotBits sh xs t)
-  unfolding slotBits
-  slot-bits-map xs t = by (eqb (sh .mode) 0)
+  slot-bits-map : (xs : List A) (h t : ℕ) → slotBits sh (map g xs) h t ≡ map g (slotBits sh xs h t)
+  unfolding slotBits slotPart slotShare sharePart
+  slot-bits-map xs h t = by (eqb (sh .mode) 0)
     where
-      by : (b : Bool) → cond b (slotPart sh t (secondInterleaved (map g xs))) (secondInterleaved (slotPart sh t (map g xs)))
-          ≡ map g (cond b (slotPart sh t (secondInterleaved xs)) (secondInterleaved (slotPart sh t xs)))
-      by true = ap (slotPart sh t) (second-map g xs) ∙ slot-part-map t (secondInterleaved xs)
-      by false = ap secondInterleaved (slot-part-map t xs) ∙ second-map g (slotPart sh t xs)
+      by : (b : Bool) → cond b (slotPart sh h t (secondInterleaved (map g xs))) (sharePart sh h t (secondInterleaved (slotShare sh t (map g xs))))
+          ≡ map g (cond b (slotPart sh h t (secondInterleaved xs)) (sharePart sh h t (secondInterleaved (slotShare sh t xs))))
+      by true = simp (second-map, drop-map, take-map)
+      by false = simp (second-map, drop-map, take-map)
 
   pub spread-map : (xs : List A) → spread sh (map g xs) ≡ map g (spread sh xs)
   unfolding spread
   spread-map xs =
-      joined-same (λ t. slotOf (capsOf sh t) (slotBits sh (map g xs) t) (slotBits sh (map g xs) t))
-      (λ t. map g (slotOf (capsOf sh t) (slotBits sh xs t) (slotBits sh xs t))) (sh .slots)
-      (λ t l.
-      ap (λ (b : List B). slotOf (capsOf sh t) b b) (slot-bits-map xs t)
-      ∙ mapped-map g (at (capsOf sh t)) ones (length (capsOf sh t)) (slotBits sh xs t) (slotBits sh xs t))
-      ∙ sym (map-joined g (λ t. slotOf (capsOf sh t) (slotBits sh xs t) (slotBits sh xs t)) (sh .slots))
+      rows-same (λ h t. slotMapped sh t (slotBits sh (map g xs) h t)) (λ h t. map g (slotMapped sh t (slotBits sh xs h t))) (subframesOf sh) (sh .slots)
+      (λ h t k l.
+      ap (slotMapped sh t) (slot-bits-map xs h t)
+      ∙ mapped-map g (at (capsOf sh t)) (runsOf sh t) (length (capsOf sh t)) (slotBits sh xs h t) (slotBits sh xs h t))
+      ∙ sym (map-rows g (λ h t. slotMapped sh t (slotBits sh xs h t)) (subframesOf sh) (sh .slots))
 
 module _ {A B C : Type 0} (f : A → ℕ → B) (h : B → C) (sh : Sheet) (ok : Accepted sh) (frame : ℕ) (ts : ℕ → List A) where
   abbrev mapped-sent : A → ℕ → C

@@ -3,5 +3,5 @@ pub mod ContentLaws
 pub mod SpreadLaws
 pub mod SendLaws
 pub mod Example
-pub mod AboveLaws
+pub mod BitLaws
 pub mod RoomLaws

@@ -11,7 +11,7 @@ use Rattle.sheet.specs.declared.Sheet.{Sheet}
 use Rattle.opening.specs.Opened.{Opens}
 use Rattle.opening.specs.declared.Opened.{Opened}
 use Rattle.opening.proofs.OpenLaws.{size-is, capacity-most, sizes-most}
-use Rattle.frame.specs.Above.{NoneAbove}
+use Rattle.laws.specs.Above.{NoneAbove}
 use Rattle.frame.specs.Room.{Segments, Room}
 
 -- a longer room serves too, and 60,000 serve always

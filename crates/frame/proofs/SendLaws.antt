@@ -1,18 +1,19 @@
 -- Laws of what one channel sends, as the code works it out.
 use mathlib.Core.Path.{_≡_, refl, sym, ap, ap₂, _∙_, subst}
 use mathlib.Core.Bool.{Bool}
-use mathlib.Core.List.{List, [], _∷_, _++_}
-use Prim.Native.Nat.{ℕ, zero, suc, _+_, _-_, _%_, _≤_, _<_}
+use mathlib.Core.List.{List, []}
+use Prim.Native.Nat.{ℕ, _+_, _-_, _%_, _≤_, _<_}
 use native.Mathlib.Nat.{mod-one}
 use native.Mathlib.Omega.{arith}
-use lib.IntN.{ℤ, pos, negsuc, natAbs}
+use lib.IntN.{ℤ, natAbs}
 use borrow.Rule.Slice.PartMut.{putMid}
-use lib.ListN.{length, getD, take, drop, length-append, length-drop}
-use lib.Seq.{length-take-le}
+use lib.ListN.{length, getD, take, drop}
 use Rattle.laws.specs.Sums.{sumTo}
 use Rattle.laws.specs.Laid.{Laid}
 use Rattle.laws.specs.Joined.{joined}
 use Rattle.laws.proofs.SumLaws.{sum-within}
+use Rattle.laws.proofs.PartLaws.{part-length}
+use Rattle.laws.proofs.LaidLaws.{laid-joined}
 use Rattle.sheet.specs.Counts.{mostBits}
 use Rattle.sheet.specs.Fields.{ttiOf, encodedOf}
 use Rattle.sheet.specs.Sizes.{framesIn, segmentIn, framesOf, sizeOf, encodedAll, capacityAll}
@@ -26,8 +27,8 @@ use Rattle.offset.specs.Offset.{startOf}
 use Rattle.opening.proofs.OpenLaws.{sizes-most, weighs, low-is, high-is, cut-rises}
 use Rattle.opening.specs.Opened.{Opens}
 use Rattle.opening.specs.declared.Opened.{Opened}
-use Rattle.pattern.specs.Pattern.{asIs, walked, matched, Segment}
-use Rattle.pattern.proofs.MatchedLaws.{matched-same}
+use Rattle.pattern.specs.Pattern.{asIs, matched, Segment}
+use Rattle.pattern.proofs.StartLaws.{matched-start}
 use Rattle.matching.proofs.SignedLaws.{magnitude}
 use Rattle.interleaving.specs.First.{equalised, segmentOf, Segmenting}
 use Rattle.interleaving.proofs.EqualisedLaws.{segments-hold, equalised-length}
@@ -35,17 +36,7 @@ use Rattle.interleaving.proofs.FirstLaws.{segment-whole}
 use Rattle.frame.specs.Frame.{startAt, sentOf, contentsOf}
 use Rattle.frame.specs.Walk.{Walks}
 use Rattle.frame.specs.declared.walking.Walk.{Walk}
-use Rattle.frame.proofs.SpreadLaws.{part-length, one-more}
 use Rattle.frame.proofs.FrameLaws.{rates, sent-matched, length-part}
-
--- where there is no bit, or d = 0, no start counts
-pub matched-start : {A B : Type 0} (f : A → ℕ → B) (d : ℤ) (N e s : ℕ) (xs : List A) → length xs ≡ N → (0 < N → 0 < natAbs d → e ≡ s)
-    → matched f d N e xs ≡ matched f d N s xs
-unfolding matched walked
-matched-start f d N e s [] n h = refl
-matched-start f (pos zero) N e s (x ∷ xs) n h = matched-same f N e (x ∷ xs) ∙ sym (matched-same f N s (x ∷ xs))
-matched-start f (pos (suc a)) N e s (x ∷ xs) n h = ap (λ (k : ℕ). matched f (pos (suc a)) N k (x ∷ xs)) (h (omega arith) (omega arith))
-matched-start f (negsuc a) N e s (x ∷ xs) n h = ap (λ (k : ℕ). matched f (negsuc a) N k (x ∷ xs)) (h (omega arith) (omega arith))
 
 -- with F = 1 the segment is the contents
 one-frame : (e : ℕ) (c : List ℕ) (frame : ℕ) → length c ≡ e
@@ -156,11 +147,7 @@ module _ (o : Opened) (h : Opens o) (i : ℕ) (l : i < o .fields .channels) wher
   sent-more g was out {y} w n q =
       let put = putMid (getD (o .cuts) i 0) (getD (o .cuts) (i + 1) 0 - getD (o .cuts) i 0) out y in
       let v = subst (λ (k : ℕ). Laid was out k (joined g i)) (sym (low-is o h i l)) w in
-      subst (λ (k : ℕ). Laid was put k (joined g (i + 1))) (high-is o h i l) (one-more g was out _ _ i v (cut-rises o h i l) n q)
-
--- a list whose beginning was lent is as long as before
-pub prefix-long : {A : Type 0} (xs y : List A) (n : ℕ) → length y ≡ length (take n xs) → n ≤ length xs → length (y ++ drop n xs) ≡ length xs
-prefix-long xs y n e b = length-append y (drop n xs) ∙ omega (arith, length-take-le n xs b, length-drop n xs)
+      subst (λ (k : ℕ). Laid was put k (joined g (i + 1))) (high-is o h i l) (laid-joined g was out _ _ i v (cut-rises o h i l) n q)
 
 -- nothing is laid before the first channel
 pub sent-none : {A : Type 0} (sh : Sheet) → Accepted sh → (xs : List A) → Laid xs xs (cutOf sh 0) []

@@ -1,94 +1,148 @@
--- Laws of slots one after the other: where each begins, and one more of them written.
+-- Laws of slots one after the other, as the code goes along them: where each begins, and one more of them written.
 use mathlib.Core.Path.{_≡_, refl, sym, ap, ap₂, _∙_}
 use mathlib.Core.Bool.{Bool, true, false, cond}
-use mathlib.Core.List.{List, _++_}
+use mathlib.Core.List.{List, []}
 use Prim.Native.Nat.{ℕ, _+_, _*_, _-_, _≤_, _<_}
-use native.Mathlib.Numerals.{add-one}
+use native.Mathlib.Nat.{zero-mul, one-mul}
 use native.Mathlib.Omega.{arith}
 use borrow.Author.Tests.{eq-eqb, ne-eqb}
 use borrow.Rule.Slice.PartMut.{putMid}
 use lib.Dec.{eqb}
-use lib.ListN.{length, take, drop, length-drop}
-use lib.Seq.{length-take-le}
+use lib.ListN.{length, take, drop}
+use lib.Seq.{take-all}
 use Rattle.laws.specs.Sums.{sumTo}
-use Rattle.laws.specs.Laid.{Laid}
 use Rattle.laws.specs.Joined.{joined}
 use Rattle.laws.proofs.SumLaws.{sum-more, sum-within}
-use Rattle.laws.proofs.LaidLaws.{laid-part}
-use Rattle.laws.proofs.JoinedLaws.{Begins, joined-part, joined-same}
-use Rattle.sheet.specs.Counts.{mostCodes}
+use Rattle.laws.proofs.PartLaws.{part-length}
+use Rattle.laws.proofs.LaidLaws.{laid-none, laid-joined, laid-long, laid-all}
+use Rattle.laws.proofs.RowLaws.{rows-part, rows-same, one-row}
+use Rattle.sheet.specs.Counts.{mostSlots, mostCodes, mostBits}
 use Rattle.sheet.specs.Fields.{phchsOf}
-use Rattle.sheet.specs.Sizes.{slotCapacity, capacityAll}
+use Rattle.sheet.specs.Sizes.{slotCapacity, placesAll, subframesOf, capacityAll}
 use Rattle.sheet.specs.Range.{Accepted}
 use Rattle.sheet.specs.declared.Sheet.{Sheet}
+use Rattle.sheet.proofs.SizeLaws.{one-subframe, capacity-one}
 use Rattle.interleaving.specs.Second.{secondInterleaved}
 use Rattle.interleaving.proofs.SecondLaws.{second-length}
 use Rattle.mapping.specs.Mapping.{at, ones, slotSize, slotOf, Slot}
 use Rattle.mapping.proofs.MappedLaws.{mapped-length, mapped-over}
-use Rattle.frame.specs.Frame.{capsOf, slotStart, slotPart, slotBits, interleavedSlots, interleavedBits, mappedSlots, spread}
-use Rattle.frame.proofs.FrameLaws.{caps-size, length-slot-part}
+use Rattle.opening.proofs.OpenLaws.{capacity-most}
+use Rattle.frame.specs.Frame.{capsOf, runsOf, slotStart, slotPart, slotShare, sharePart, inSlots, slotBits, slotMapped, interleavedSlots, interleavedBits, mappedSlots, spread}
+use Rattle.frame.specs.Slots.{Spans, Slotwise}
+use Rattle.frame.specs.declared.spreading.Span.{Span}
+use Rattle.frame.proofs.FrameLaws.{runs-ones, caps-size, length-share, length-share-made}
 
-pub slot-next : (sh : Sheet) (t : ℕ) {a u : ℕ} → a ≡ slotStart sh t → u ≡ slotCapacity sh t → a + u ≡ slotStart sh (t + 1)
-slot-next sh t p q = sum-more (slotCapacity sh) t p q
+-- ---- slot after slot: what a loop holds
 
-pub slot-within : (sh : Sheet) (t : ℕ) {a u : ℕ} → t < sh .slots → a ≡ slotStart sh t → u ≡ slotCapacity sh t → a + u ≤ capacityAll sh
-slot-within sh t l p q = omega (arith, sum-within (slotCapacity sh) t (sh .slots) l)
+-- before the first slot
+pub slots-start : {A : Type 0} (sh : Sheet) (made : ℕ → List A) (o : List A) → Slotwise sh made o o 0 0
+unfolding sumTo joined
+slots-start sh made o = record { some = omega arith; begins = refl; long = refl; laid = laid-none o }
 
--- a part of a list from a up to e
-pub part-length : {A : Type 0} (xs : List A) (a e : ℕ) → a ≤ e → e ≤ length xs → length (take (e - a) (drop a xs)) ≡ e - a
-part-length xs a e h b = length-take-le (e - a) (drop a xs) (omega (arith, length-drop a xs))
+module _ {A : Type 0} {sh : Sheet} {made : ℕ → List A} {o out : List A} {t a : ℕ} (h : Slotwise sh made o out t a) where
+  -- what is asked of a slot's span
+  pub span-asks : Accepted sh → t < sh .slots → (t < mostSlots) × (phchsOf sh t ≤ mostCodes) × (a ≤ mostBits)
+  span-asks ok l = (
+    omega (arith, ok .ranged .fifteen),
+    ok .ranged .phch16 t l,
+    omega (arith, h .begins, sum-within (slotCapacity sh) t (sh .slots) l, capacity-one sh, capacity-most sh ok),
+  )
 
-pub part-is : {A : Type 0} (sh : Sheet) (t : ℕ) (xs : List A) {a u : ℕ} → a ≡ slotStart sh t → u ≡ slotCapacity sh t
-    → take (a + u - a) (drop a xs) ≡ slotPart sh t xs
-unfolding slotPart
-part-is sh t xs {a} {u} p q =
-    let e : a + u - a ≡ slotCapacity sh t = omega arith in
-    ap₂ (λ (x y : ℕ). take x (drop y xs)) e p
+  -- one slot more
+  module _ (l : t < sh .slots) {s : Span} (p : Spans (sh .phchs) (sh .caps) t a s) where
+    pub span-ends : (a ≤ s .end) × (s .end ≤ capacityAll sh)
+    span-ends = omega (arith, p .end, h .begins, sum-within (slotCapacity sh) t (sh .slots) l, capacity-one sh)
 
--- one list more, written from a up to e
-pub one-more : {A : Type 0} (g : ℕ → List A) (o out : List A) (a e t : ℕ) {y : List A} → Laid o out a (joined g t) → a ≤ e → length y ≡ e - a
-    → y ≡ g t → Laid o (putMid a (e - a) out y) e (joined g (t + 1))
-unfolding joined
-one-more g o out a e t {y} h b n q =
-    let r : joined g t ++ y ≡ joined g (t + 1) = ap (λ l. joined g t ++ l) q ∙ ap (joined g) (sym (add-one t)) in
-    rw r at (laid-part o out a (joined g t) y e h b n)
+    pub slots-turn : length o ≡ capacityAll sh → {y : List A} → (length y ≡ s .end - a) × (y ≡ made t)
+        → Slotwise sh made o (putMid a (s .end - a) out y) (t + 1) (s .end)
+    slots-turn full {y} y-is =
+        let d = laid-joined made o out a (s .end) t (h .laid) (span-ends .0) (y-is .0) (y-is .1) in
+        record {
+          some = omega arith;
+          begins = p .end ∙ sum-more (slotCapacity sh) t (h .begins) refl;
+          long = laid-long o _ (s .end) _ d (omega (arith, span-ends .1));
+          laid = d;
+        }
 
--- a slot's capacities and its parts as the code lends them
-module _ (sh : Sheet) (ok : Accepted sh) (t : ℕ) (l : t < sh .slots) {a u p : ℕ} (ea : a ≡ slotStart sh t) (eu : u ≡ slotCapacity sh t)
-    (ep : p ≡ phchsOf sh t) where
-  caps-part : take (mostCodes * t + p - mostCodes * t) (drop (mostCodes * t) (sh .caps)) ≡ capsOf sh t
+  -- after the last one
+  pub slots-end : sh .slots ≤ t → length o ≡ capacityAll sh → out ≡ joined made (sh .slots)
+  slots-end l full =
+      let e : t ≡ sh .slots = omega (arith, h .some) in
+      laid-all o out a _ (h .laid) (h .begins ∙ ap (slotStart sh) e ∙ capacity-one sh ∙ sym full) ∙ ap (joined made) e
+
+-- ---- a slot as the code lends it, the frame having one sub-frame
+
+module _ (sh : Sheet) (t : ℕ) {a : ℕ} (ea : a ≡ slotStart sh t) {s : Span} (p : Spans (sh .phchs) (sh .caps) t a s) where
+  span-size : s .end - a ≡ slotCapacity sh t
+  span-size = omega (arith, p .end)
+
+  pub caps-lent : take (s .to - s .from) (drop (s .from) (sh .caps)) ≡ capsOf sh t
   unfolding capsOf
-  caps-part = let e : mostCodes * t + p - mostCodes * t ≡ phchsOf sh t = omega arith in ap (λ (x : ℕ). take x (drop (mostCodes * t) (sh .caps))) e
+  caps-lent =
+      let e : s .to - s .from ≡ phchsOf sh t = omega (arith, p .to, p .from) in
+      ap₂ (λ (x y : ℕ). take x (drop y (sh .caps))) e (p .from)
 
-  lent-size : {A : Type 0} (xs : List A) → length xs ≡ capacityAll sh → length (take (a + u - a) (drop a xs)) ≡ slotSize (capsOf sh t)
-  lent-size xs n =
-      let e : a + u - a ≡ slotCapacity sh t = omega arith in
-      part-length xs a (a + u) (omega arith) (omega (arith, slot-within sh t l ea eu)) ∙ e ∙ sym (caps-size sh ok t l)
+  module _ {A : Type 0} (xs : List A) where
+    pub part-lent : take (s .end - a) (drop a xs) ≡ slotPart sh 0 t xs
+    unfolding slotPart
+    part-lent =
+        let z : a ≡ 0 * placesAll sh + slotStart sh t = omega (arith, ea, zero-mul (placesAll sh)) in
+        ap₂ (λ (x y : ℕ). take x (drop y xs)) span-size z
 
-  pub slot-fits : {A B : Type 0} (bits : List A) (out : List B) → length bits ≡ capacityAll sh → length out ≡ capacityAll sh
-      → Slot (take (mostCodes * t + p - mostCodes * t) (drop (mostCodes * t) (sh .caps))) (length (take (a + u - a) (drop a bits)))
-      (length (take (a + u - a) (drop a out)))
-  slot-fits bits out n m = rw caps-part (record { bits = lent-size bits n; room = lent-size out m })
+    share-lent : take (s .end - a) (drop a xs) ≡ slotShare sh t xs
+    unfolding slotShare
+    share-lent =
+        let c = one-mul (slotCapacity sh t) in
+        let b = one-mul (slotStart sh t) in
+        ap₂ (λ (x y : ℕ). take x (drop y xs)) (span-size ∙ sym c) (ea ∙ sym b)
+        ∙ ap (λ (k : ℕ). take (k * slotCapacity sh t) (drop (k * slotStart sh t) xs)) (sym (one-subframe sh))
 
-  -- what a slot is made of its part of the bits, whatever stood there
-  pub slot-made : (bits out : List ℕ) → length bits ≡ capacityAll sh → length out ≡ capacityAll sh → {y : List ℕ}
-      → y
-      ≡ slotOf (take (mostCodes * t + p - mostCodes * t) (drop (mostCodes * t) (sh .caps))) (take (a + u - a) (drop a bits)) (take (a + u - a) (drop a out))
-      → (y ≡ slotOf (capsOf sh t) (slotPart sh t bits) (slotPart sh t bits)) × (length y ≡ a + u - a)
-  slot-made bits out n m {y} e =
-      let b = take (a + u - a) (drop a bits) in
-      let o = take (a + u - a) (drop a out) in
-      let q : y ≡ slotOf (capsOf sh t) b o = rw caps-part at e in
-      let r : slotOf (capsOf sh t) b o ≡ slotOf (capsOf sh t) b b =
-      mapped-over (at (capsOf sh t)) ones (length (capsOf sh t)) (λ k h. omega arith) 0 b o b (lent-size bits n) (lent-size out m) (lent-size bits n)
-      in
-      let s = ap (λ (x : List ℕ). slotOf (capsOf sh t) x x) (part-is sh t bits ea eu) in (
-        q ∙ r ∙ s,
-        ap length q ∙ mapped-length (at (capsOf sh t)) ones (length (capsOf sh t)) b o
-            ∙ part-length out a (a + u) (omega arith) (omega (arith, slot-within sh t l ea eu)),
-      )
+    -- the one sub-frame has the slot's whole share
+    pub share-whole : (ys : List A) → length ys ≡ slotCapacity sh t → sharePart sh 0 t ys ≡ ys
+    unfolding sharePart
+    share-whole ys n =
+        ap (λ (x : ℕ). take (slotCapacity sh t) (drop x ys)) (zero-mul (slotCapacity sh t)) ∙ take-all (slotCapacity sh t) ys (omega arith)
 
--- step 8 by the mode, and the slots of what it gives
+    module _ (l : t < sh .slots) (full : length xs ≡ capacityAll sh) where
+      pub lent-long : length (take (s .end - a) (drop a xs)) ≡ s .end - a
+      lent-long =
+          part-length xs a (s .end) (omega (arith, p .end)) (omega (arith, p .end, ea, full, capacity-one sh, sum-within (slotCapacity sh) t (sh .slots) l))
+
+      -- mode 1
+      pub share-made : secondInterleaved (take (s .end - a) (drop a xs)) ≡ sharePart sh 0 t (secondInterleaved (slotShare sh t xs))
+      share-made =
+          ap secondInterleaved share-lent
+          ∙ sym (share-whole (secondInterleaved (slotShare sh t xs)) (second-length (slotShare sh t xs) ∙ ap length (sym share-lent) ∙ lent-long ∙ span-size))
+
+      lent-size : Accepted sh → length (take (s .end - a) (drop a xs)) ≡ slotSize (capsOf sh t)
+      lent-size ok = lent-long ∙ span-size ∙ sym (caps-size sh ok t l)
+
+  -- step 9: what is asked of a slot, and what it is made of its part of the bits, whatever stood there
+  module _ (ok : Accepted sh) (l : t < sh .slots) where
+    pub slot-fits : {A B : Type 0} (bits : List A) (out : List B) → length bits ≡ capacityAll sh → length out ≡ capacityAll sh
+        → Slot (take (s .to - s .from) (drop (s .from) (sh .caps))) (length (take (s .end - a) (drop a bits))) (length (take (s .end - a) (drop a out)))
+    slot-fits bits out n m = rw caps-lent (record { bits = lent-size bits l n ok; room = lent-size out l m ok })
+
+    pub slot-made : (bits out : List ℕ) → length bits ≡ capacityAll sh → length out ≡ capacityAll sh → {y : List ℕ}
+        → y ≡ slotOf ones (take (s .to - s .from) (drop (s .from) (sh .caps))) (take (s .end - a) (drop a bits)) (take (s .end - a) (drop a out))
+        → (length y ≡ s .end - a) × (y ≡ slotMapped sh t (slotPart sh 0 t bits))
+    slot-made bits out n m {y} e =
+        let b = take (s .end - a) (drop a bits) in
+        let o = take (s .end - a) (drop a out) in
+        let q : y ≡ slotOf ones (capsOf sh t) b o = rw caps-lent at e in (
+          ap length q ∙ mapped-length (at (capsOf sh t)) ones (length (capsOf sh t)) b o ∙ lent-long out l m,
+          q
+              ∙ mapped-over (at (capsOf sh t)) ones (length (capsOf sh t)) (λ k h. omega arith) 0 b o b (lent-size bits l n ok) (lent-size out l m ok)
+              (lent-size bits l n ok)
+              ∙ ap₂ (λ (B : ℕ → ℕ) (x : List ℕ). slotOf B (capsOf sh t) x x) (sym (runs-ones sh t)) (part-lent bits),
+        )
+
+-- the slots of one sub-frame are the frame
+pub one-frame : {A : Type 0} (sh : Sheet) (g : ℕ → ℕ → List A) → joined (g 0) (sh .slots) ≡ inSlots sh g
+one-frame sh g = one-row g (sh .slots) (one-subframe sh)
+
+-- ---- step 8 by the mode, and the slots of what it gives
+
 module _ {A : Type 0} (sh : Sheet) (xs : List A) (full : length xs ≡ capacityAll sh) where
   pub over-all : sh .mode ≡ 0 → secondInterleaved xs ≡ interleavedBits sh xs
   unfolding interleavedBits
@@ -98,23 +152,16 @@ module _ {A : Type 0} (sh : Sheet) (xs : List A) (full : length xs ≡ capacityA
   unfolding interleavedBits
   by-slots z = sym (ap (λ (b : Bool). cond b (secondInterleaved xs) (interleavedSlots sh xs)) (ne-eqb (sh .mode) 0 z))
 
-  slot-length : (t : ℕ) → t < sh .slots → length (secondInterleaved (slotPart sh t xs)) ≡ slotCapacity sh t
-  slot-length t l = second-length (slotPart sh t xs) ∙ length-slot-part sh xs full t l
-
-  parts-begin : Begins (λ t. secondInterleaved (slotPart sh t xs)) (slotStart sh) (sh .slots)
-  unfolding sumTo
-  parts-begin = record { first = refl; next = λ t l. ap (λ (n : ℕ). slotStart sh t + n) (sym (slot-length t l)) }
-
-  part-of : (b : Bool) (t : ℕ) → t < sh .slots
-      → slotPart sh t (cond b (secondInterleaved xs) (interleavedSlots sh xs)) ≡ cond b (slotPart sh t (secondInterleaved xs)) (secondInterleaved (slotPart sh t xs))
-  part-of true t l = refl
-  part-of false t l =
+  part-of : (b : Bool) (h t : ℕ) → h < subframesOf sh → t < sh .slots
+      → slotPart sh h t (cond b (secondInterleaved xs) (interleavedSlots sh xs))
+      ≡ cond b (slotPart sh h t (secondInterleaved xs)) (sharePart sh h t (secondInterleaved (slotShare sh t xs)))
+  part-of true h t k l = refl
+  part-of false h t k l =
       unfold slotPart interleavedSlots in
-      ap (λ (n : ℕ). take n (drop (slotStart sh t) (joined (λ k. secondInterleaved (slotPart sh k xs)) (sh .slots)))) (sym (slot-length t l))
-      ∙ joined-part (λ k. secondInterleaved (slotPart sh k xs)) (slotStart sh) (sh .slots) t parts-begin l
+      rows-part (slotCapacity sh) (λ i j. sharePart sh i j (secondInterleaved (slotShare sh j xs))) (subframesOf sh) (sh .slots)
+      (λ i j m n. length-share-made sh j n xs full i m) h t k l
 
   -- and mapped they are the frame
   pub spread-is : mappedSlots sh (interleavedBits sh xs) ≡ spread sh xs
   unfolding mappedSlots spread interleavedBits slotBits
-  spread-is =
-      joined-same _ _ (sh .slots) (λ t l. ap (λ (p : List A). slotOf (capsOf sh t) p p) (part-of (eqb (sh .mode) 0) t l))
+  spread-is = rows-same _ _ (subframesOf sh) (sh .slots) (λ h t k l. ap (slotMapped sh t) (part-of (eqb (sh .mode) 0) h t k l))

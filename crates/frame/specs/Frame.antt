@@ -1,14 +1,15 @@
--- A frame of anything: steps 1 to 9 of document 01, one after the other, for elements of any type. Channels and slots are counted from 0 here.
+-- A frame of anything: steps 1 to 9 of document 01, one after the other, for elements of any type. Channels, sub-frames and slots are counted
+-- from 0 here.
 use mathlib.Core.Bool.{cond}
 use mathlib.Core.List.{List}
-use Prim.Native.Nat.{ℕ, _*_, _%_}
+use Prim.Native.Nat.{ℕ, _+_, _*_, _%_}
 use lib.Dec.{eqb}
 use lib.ListN.{take, drop}
 use Rattle.laws.specs.Sums.{sumTo}
-use Rattle.laws.specs.Joined.{joined}
+use Rattle.laws.specs.Joined.{joined, inRows}
 use Rattle.sheet.specs.Counts.{mostCodes}
 use Rattle.sheet.specs.Fields.{ttiOf, encodedOf, phchsOf}
-use Rattle.sheet.specs.Sizes.{framesOf, sizeOf, slotCapacity}
+use Rattle.sheet.specs.Sizes.{framesOf, sizeOf, slotCapacity, placesAll, subframesOf}
 use Rattle.sheet.specs.declared.Sheet.{Sheet}
 use Rattle.matching.specs.Shares.{changeOf}
 use Rattle.offset.specs.Offset.{startOf}
@@ -31,35 +32,60 @@ sentOf f sh frame i t =
 unfoldable pub multiplexed : {A B : Type 0} → (A → ℕ → B) → Sheet → ℕ → (ℕ → List A) → List B
 multiplexed f sh frame ts = joined (λ i. sentOf f sh frame i (ts i)) (sh .channels)
 
--- the capacities of slot t, where its part of the frame begins, and that part of D elements
+-- the capacities of slot t, and in what runs each of its physical channels takes its bits
 unfoldable pub capsOf : Sheet → ℕ → List ℕ
 capsOf sh t = take (phchsOf sh t) (drop (mostCodes * t) (sh .caps))
 
+unfoldable pub runsOf : Sheet → ℕ → ℕ → ℕ
+runsOf sh t p = 1
+
+-- where slot t begins in its sub-frame, and where sub-frame h begins in the frame
 abbrev pub slotStart : Sheet → ℕ → ℕ
 slotStart sh t = sumTo (slotCapacity sh) t
 
-unfoldable pub slotPart : {A : Type 0} → Sheet → ℕ → List A → List A
-slotPart sh t xs = take (slotCapacity sh t) (drop (slotStart sh t) xs)
+abbrev pub subframeStart : Sheet → ℕ → ℕ
+subframeStart sh h = h * placesAll sh
 
--- step 8. Mode 0: over all D elements, then cut into slots. Mode 1: cut first, each slot by itself
-unfoldable pub slotBits : {A : Type 0} → Sheet → List A → ℕ → List A
-slotBits sh xs t = cond (eqb (sh .mode) 0) (slotPart sh t (secondInterleaved xs)) (secondInterleaved (slotPart sh t xs))
+-- of D elements in the frame's order, the part of slot t of sub-frame h
+unfoldable pub slotPart : {A : Type 0} → Sheet → ℕ → ℕ → List A → List A
+slotPart sh h t xs = take (slotCapacity sh t) (drop (subframeStart sh h + slotStart sh t) xs)
 
--- each slot by itself, one after the other: step 8 in mode 1
+-- of the D multiplexed elements, the share of slot t, for all sub-frames; and of such a share, what is sub-frame h's
+unfoldable pub slotShare : {A : Type 0} → Sheet → ℕ → List A → List A
+slotShare sh t xs = take (subframesOf sh * slotCapacity sh t) (drop (subframesOf sh * slotStart sh t) xs)
+
+unfoldable pub sharePart : {A : Type 0} → Sheet → ℕ → ℕ → List A → List A
+sharePart sh h t ys = take (slotCapacity sh t) (drop (h * slotCapacity sh t) ys)
+
+-- the frame: sub-frame after sub-frame, and in each slot after slot
+abbrev pub inSlots : {A : Type 0} → Sheet → (ℕ → ℕ → List A) → List A
+inSlots sh g = inRows g (subframesOf sh) (sh .slots)
+
+-- step 8. Mode 0: over all D elements, then cut into sub-frames and slots. Mode 1: cut into slots first, each slot's share by itself, which is then
+-- cut into sub-frames
+unfoldable pub slotBits : {A : Type 0} → Sheet → List A → ℕ → ℕ → List A
+slotBits sh xs h t =
+    cond (eqb (sh .mode) 0) (slotPart sh h t (secondInterleaved xs)) (sharePart sh h t (secondInterleaved (slotShare sh t xs)))
+
+-- each slot's share by itself, in the frame's order: step 8 in mode 1
 unfoldable pub interleavedSlots : {A : Type 0} → Sheet → List A → List A
-interleavedSlots sh xs = joined (λ t. secondInterleaved (slotPart sh t xs)) (sh .slots)
+interleavedSlots sh xs = inSlots sh (λ h t. sharePart sh h t (secondInterleaved (slotShare sh t xs)))
 
 -- step 8, by the mode
 unfoldable pub interleavedBits : {A : Type 0} → Sheet → List A → List A
 interleavedBits sh xs = cond (eqb (sh .mode) 0) (secondInterleaved xs) (interleavedSlots sh xs)
 
--- step 9, slot after slot. Each place of a slot is written, so that it does not matter what stood there before
-unfoldable pub spread : {A : Type 0} → Sheet → List A → List A
-spread sh xs = joined (λ t. slotOf (capsOf sh t) (slotBits sh xs t) (slotBits sh xs t)) (sh .slots)
+-- step 9 of one slot. Each place of it is written, so that it does not matter what stood there before
+abbrev pub slotMapped : {A : Type 0} → Sheet → ℕ → List A → List A
+slotMapped sh t bits = slotOf (runsOf sh t) (capsOf sh t) bits bits
 
--- the same of bits that are interleaved already
+-- steps 8 and 9
+unfoldable pub spread : {A : Type 0} → Sheet → List A → List A
+spread sh xs = inSlots sh (λ h t. slotMapped sh t (slotBits sh xs h t))
+
+-- step 9 of bits that are interleaved already
 unfoldable pub mappedSlots : {A : Type 0} → Sheet → List A → List A
-mappedSlots sh xs = joined (λ t. slotOf (capsOf sh t) (slotPart sh t xs) (slotPart sh t xs)) (sh .slots)
+mappedSlots sh xs = inSlots sh (λ h t. slotMapped sh t (slotPart sh h t xs))
 
 -- steps 2 to 9
 unfoldable pub frameOf : {A B : Type 0} → (A → ℕ → B) → Sheet → ℕ → (ℕ → List A) → List B

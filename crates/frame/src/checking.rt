@@ -2,7 +2,7 @@
 ghost use mathlib.Core.Path.{_≡_};
 ghost use Prim.Native.Nat.{_≤_};
 ghost use lib.ListN.{length};
-ghost use Rattle.frame.specs.Above.{NoneAbove};
+ghost use Rattle.laws.specs.Above.{NoneAbove};
 ghost use Rattle.frame.specs.Bit.{firstBad};
 
 fn larger(a: u8, b: u8) -> u8

@@ -1,13 +1,40 @@
 // Steps 8 and 9: the multiplexed bits interleaved, and mapped slot after slot.
 ghost use mathlib.Core.Path.{_≡_};
-ghost use lib.ListN.{length};
+ghost use Prim.Native.Nat.{_≤_, _<_};
+ghost use lib.ListN.{length, getD};
+ghost use Rattle.sheet.specs.Counts.{mostSlots, mostCodes, mostBits};
 ghost use Rattle.sheet.specs.Sizes.{capacityAll};
 ghost use Rattle.sheet.specs.Range.{Accepted};
 ghost use Rattle.frame.specs.Frame.{interleavedSlots, interleavedBits, mappedSlots, spread};
+ghost use Rattle.frame.specs.Slots.{Spans};
 use sheet::Sheet;
 use sheet::count;
+use sheet::counts::CAPACITIES;
 use sheet::counts::CODES;
+use sheet::counts::SLOTS;
 use sheet::sizes::slot_load;
+
+// Slot t: its capacities stand from `from` up to `to` in the array of all, and its part of the frame ends at `end`.
+pub struct Span {
+    pub from: usize,
+    pub to: usize,
+    pub end: usize,
+}
+
+// Of slot t, whose part begins at a.
+pub fn span_of<'a>(phchs: &'a [u16; SLOTS], caps: &'a [u16; CAPACITIES], t: usize, a: usize) -> Span
+    requires { ⌜ (t < mostSlots) × (getD (now phchs) t 0 ≤ mostCodes) × (a ≤ mostBits) ⌝ }
+    ensures { λ r. ⌜ Spans (now (phchs .entry)) (now (caps .entry)) t a r ⌝ }
+{
+    let from = CODES * t;
+    let n = count(phchs[t]);
+    let one = slot_load(caps, from, n);
+    Span {
+        from: from,
+        to: from + n,
+        end: a + one.sum as usize,
+    }
+}
 
 // Mode 1: each slot's part interleaved by itself.
 fn interleave_slots(bits: &[u8], fields: Sheet, out: &mut [u8])
@@ -19,8 +46,8 @@ fn interleave_slots(bits: &[u8], fields: Sheet, out: &mut [u8])
     let mut t: usize = 0;
     let mut a: usize = 0;
     while t < count(fields.slots) {
-        let one = slot_load(&caps, CODES * t, count(phchs[t]));
-        let e = a + one.sum as usize;
+        let s = span_of(&phchs, &caps, t, a);
+        let e = s.end;
         interleaving::second::interleave(&bits[a..e], &mut out[a..e]);
         a = e;
         t += 1;
@@ -37,11 +64,10 @@ fn map_slots(bits: &[u8], fields: Sheet, out: &mut [u8])
     let mut t: usize = 0;
     let mut a: usize = 0;
     while t < count(fields.slots) {
-        let from = CODES * t;
-        let n = count(phchs[t]);
-        let to = from + n;
-        let one = slot_load(&caps, from, n);
-        let e = a + one.sum as usize;
+        let s = span_of(&phchs, &caps, t, a);
+        let from = s.from;
+        let to = s.to;
+        let e = s.end;
         mapping::map_slot(&bits[a..e], &caps[from..to], &mut out[a..e]);
         a = e;
         t += 1;

@@ -1,15 +1,13 @@
 -- What is heard of a channel are values of the received frame: a test that all of those pass, these pass.
-use mathlib.Core.Path.{_≡_, refl, sym, ap, _∙_}
-use mathlib.Core.Bool.{Bool, true}
-use mathlib.Core.List.{List, [], _∷_}
-use Prim.Native.Nat.{ℕ, zero, suc, _-_, _<_}
+use mathlib.Core.Path.{_≡_, sym, ap, _∙_}
+use mathlib.Core.Bool.{Bool}
+use mathlib.Core.List.{List}
+use Prim.Native.Nat.{ℕ, suc, _<_}
 use native.Mathlib.Omega.{arith}
 use lib.Ieee.{Float, nan}
 use lib.ListN.{length, getD, drop, length-take, length-drop}
-use Rattle.laws.specs.FirstFail.{firstFail, NoneFails}
-use Rattle.laws.proofs.SumLaws.{sum-within}
-use Rattle.laws.proofs.FirstFailLaws.{none-first, none-rest, none-cons, none-take, none-drop}
-use Rattle.sheet.specs.Fields.{phchsOf, capacityOf}
+use Rattle.laws.specs.FirstFail.{NoneFails}
+use Rattle.laws.proofs.FirstFailLaws.{none-take, none-drop, passes-at, passes-all}
 use Rattle.sheet.specs.Sizes.{capacityAll}
 use Rattle.sheet.specs.Range.{Accepted}
 use Rattle.sheet.specs.declared.Sheet.{Sheet}
@@ -17,40 +15,15 @@ use Rattle.matching.specs.Shares.{weightOf, cutOf, shareOf}
 use Rattle.matching.proofs.ShareLaws.{cut-most}
 use Rattle.opening.proofs.OpenLaws.{weighs}
 use Rattle.frame.specs.Frame.{spread}
-use Rattle.frame.proofs.FrameLaws.{cut-next, slot-room}
-use Rattle.naming.specs.Name.{indexOf, Exists}
-use Rattle.naming.proofs.Slots.{slot-in, phch-in, placed-at}
-use Rattle.naming.proofs.Places.{place-onto}
+use Rattle.frame.proofs.FrameLaws.{cut-next}
+use Rattle.naming.specs.Name.{indexOf}
+use Rattle.naming.proofs.Slots.{placed-at}
+use Rattle.naming.proofs.Places.{place-onto, index-inside}
 use Rattle.homing.specs.Gather.{gathered}
 use Rattle.homing.specs.Home.{heardIn}
 use Rattle.homing.proofs.GatherLaws.{length-gathered, spread-gathered}
 
--- ---- a test that each element of a list passes
-
-module _ {A : Type 0} (test : A → Bool) where
-  passes-at : (xs : List A) (i : ℕ) (d : A) → NoneFails test xs → i < length xs → test (getD xs i d) ≡ true
-  passes-at [] i d h l = absurd (omega arith)
-  passes-at (x ∷ xs) zero d h l = none-first test x xs h
-  passes-at (x ∷ xs) (suc i) d h l = passes-at xs i d (none-rest test x xs h) (omega arith)
-
-  passes-all : (xs : List A) (d : A) → ((i : ℕ) → i < length xs → test (getD xs i d) ≡ true) → NoneFails test xs
-  unfolding firstFail
-  passes-all [] d h = refl
-  passes-all (x ∷ xs) d h = none-cons test x xs (h 0 (omega arith)) (passes-all xs d (λ i l. h (suc i) (omega arith)))
-
 -- ---- each value of the multiplexed frame is that of a place
-
-place-inside : (sh : Sheet) (slot phch place : ℕ) → Exists sh slot phch place → indexOf sh slot phch place < capacityAll sh
-unfolding indexOf
-place-inside sh slot phch place e =
-    let t = slot - 1 in
-    omega (
-      arith,
-      e .place-from,
-      e .place-to,
-      sum-within (capacityOf sh t) (phch - 1) (phchsOf sh t) (phch-in sh slot phch place e),
-      slot-room sh t (slot-in sh slot phch place e),
-    )
 
 spread-passes : (sh : Sheet) → Accepted sh → (test : Float → Bool) (xs ys : List Float) → length xs ≡ capacityAll sh → length ys ≡ capacityAll sh
     → spread sh xs ≡ ys → NoneFails test ys → NoneFails test xs
@@ -58,12 +31,12 @@ spread-passes sh ok test xs ys full long e h =
     passes-all test xs nan
     (λ x l.
     let p = place-onto sh x (omega arith) in
-    let at = indexOf sh (p .slot) (p .phch) (p .place) in
+    let at = indexOf sh (p .subframe) (p .slot) (p .phch) (p .place) in
     let q : getD ys at nan ≡ getD xs x nan =
     ap (λ (l : List Float). getD l at nan) (sym e)
-    ∙ placed-at sh (p .slot) (p .phch) (p .place) (p .there) ok xs nan full
+    ∙ placed-at sh (p .subframe) (p .slot) (p .phch) (p .place) (p .there) ok xs nan full
     ∙ ap (λ (k : ℕ). getD xs k nan) (p .index) in
-    ap test (sym q) ∙ passes-at test ys at nan h (omega (arith, place-inside sh (p .slot) (p .phch) (p .place) (p .there))))
+    ap test (sym q) ∙ passes-at test ys at nan h (omega (arith, index-inside sh (p .subframe) (p .slot) (p .phch) (p .place) (p .there))))
 
 module _ (sh : Sheet) (ok : Accepted sh) (i : ℕ) (l : i < sh .channels) (frame : List Float) where
   -- as many as the channel's share

@@ -1,44 +1,56 @@
 -- Laws of gathering: what a slot gives, the mode, how long each part is, and that gathering and spreading undo each other.
 use mathlib.Core.Path.{_≡_, refl, sym, ap, ap₂, _∙_}
 use mathlib.Core.Bool.{Bool, true, false, cond}
-use mathlib.Core.List.{List, _++_, map}
-use Prim.Native.Nat.{ℕ, zero, suc, _+_, _*_, _-_, _<_}
+use mathlib.Core.List.{List, map}
+use Prim.Native.Nat.{ℕ, _+_, _*_, _-_, _<_}
+use native.Mathlib.Nat.{mul-zero, zero-mul, suc-mul, mul-add}
 use native.Mathlib.Omega.{arith}
 use borrow.Author.Tests.{eq-eqb, ne-eqb}
 use lib.Dec.{eqb}
 use lib.ListN.{length, take, drop, length-map}
-use lib.Seq.{take-add, take-all}
+use lib.Seq.{take-all}
 use Rattle.laws.specs.Sums.{sumTo}
 use Rattle.laws.specs.Joined.{joined}
-use Rattle.laws.proofs.JoinedLaws.{Begins, length-joined, joined-part, joined-same}
-use Rattle.sheet.specs.Counts.{mostCodes}
-use Rattle.sheet.specs.Fields.{phchsOf}
-use Rattle.sheet.specs.Sizes.{slotCapacity, capacityAll}
+use Rattle.laws.proofs.JoinedLaws.{Begins, length-joined, joined-part, joined-same, cut-joined, one-part}
+use Rattle.laws.proofs.RowLaws.{length-rows, rows-part, cut-rows, rows-same}
+use Rattle.sheet.specs.Sizes.{slotCapacity, subframesOf, capacityAll}
 use Rattle.sheet.specs.Range.{Accepted}
 use Rattle.sheet.specs.declared.Sheet.{Sheet}
+use Rattle.sheet.proofs.SizeLaws.{one-subframe}
 use Rattle.interleaving.specs.Second.{secondInterleaved, secondUndone}
 use Rattle.interleaving.proofs.SecondLaws.{second-length, undone-length, second-undone, second-redone}
-use Rattle.mapping.specs.Mapping.{at, ones, slotSize, slotOf, slotUndone}
-use Rattle.mapping.proofs.MappedLaws.{mapped-length, unmapped-length, unmapped-mapped, mapped-unmapped}
-use Rattle.frame.specs.Frame.{capsOf, slotStart, slotPart, interleavedSlots, interleavedBits, mappedSlots, spread}
-use Rattle.frame.proofs.FrameLaws.{caps-size, length-slot-part, spread-map}
-use Rattle.frame.proofs.SpreadLaws.{part-is, spread-is}
-use Rattle.homing.specs.Gather.{unmappedSlots, undoneSlots, undoneBits, gathered}
-
--- ---- what the code does
-
--- what a slot gives of its part of the frame, by the capacities and the part as the code lends them
-pub slot-taken : {A : Type 0} (z : A) (sh : Sheet) (t : ℕ) (xs : List A) {a u p : ℕ} → a ≡ slotStart sh t → u ≡ slotCapacity sh t → p ≡ phchsOf sh t
-    → slotUndone (take (mostCodes * t + p - mostCodes * t) (drop (mostCodes * t) (sh .caps))) z (take (a + u - a) (drop a xs))
-    ≡ slotUndone (capsOf sh t) z (slotPart sh t xs)
-unfolding capsOf
-slot-taken z sh t xs {p = p} ea eu ep =
-    let e : mostCodes * t + p - mostCodes * t ≡ phchsOf sh t = omega arith in
-    ap₂ (λ (c : List ℕ) (w : List _). slotUndone c z w) (ap (λ (x : ℕ). take x (drop (mostCodes * t) (sh .caps))) e) (part-is sh t xs ea eu)
+use Rattle.mapping.specs.Mapping.{at, ones, slotSize, slotUndone}
+use Rattle.mapping.proofs.MappedLaws.{unmapped-length, unmapped-mapped, mapped-unmapped}
+use Rattle.frame.specs.Frame.{capsOf, runsOf, slotStart, slotPart, slotShare, sharePart, inSlots, slotMapped, interleavedSlots, interleavedBits, mappedSlots, spread}
+use Rattle.frame.specs.Slots.{Spans}
+use Rattle.frame.specs.declared.spreading.Span.{Span}
+use Rattle.frame.proofs.FrameLaws.{runs-ones, runs-some, caps-size, length-slot-part, length-share, length-share-made, length-mapped, spread-map}
+use Rattle.frame.proofs.SpreadLaws.{caps-lent, part-lent, lent-long, spread-is}
+use Rattle.homing.specs.Gather.{slotUnmapped, unmappedSlots, undoneSlots, undoneBits, gathered}
 
 pub length-taken : {A : Type 0} (z : A) (sh : Sheet) → Accepted sh → (t : ℕ) (p : List A) → t < sh .slots
-    → length (slotUndone (capsOf sh t) z p) ≡ slotCapacity sh t
-length-taken z sh ok t p l = unmapped-length (at (capsOf sh t)) ones (length (capsOf sh t)) z p ∙ caps-size sh ok t l
+    → length (slotUnmapped z sh t p) ≡ slotCapacity sh t
+length-taken z sh ok t p l = unmapped-length (at (capsOf sh t)) (runsOf sh t) (length (capsOf sh t)) z p ∙ caps-size sh ok t l
+
+-- ---- what the code does, the frame having one sub-frame
+
+module _ {A : Type 0} (z : A) (sh : Sheet) (t : ℕ) {a : ℕ} (ea : a ≡ slotStart sh t) {s : Span} (p : Spans (sh .phchs) (sh .caps) t a s) (l : t < sh .slots)
+    (xs : List A) (full : length xs ≡ capacityAll sh) where
+  -- step 9 undone of a slot, by the capacities and the part as the code lends them
+  pub slot-taken : Accepted sh → {y : List A} → y ≡ slotUndone ones (take (s .to - s .from) (drop (s .from) (sh .caps))) z (take (s .end - a) (drop a xs))
+      → (length y ≡ s .end - a) × (y ≡ slotUnmapped z sh t (slotPart sh 0 t xs))
+  slot-taken ok {y} e =
+      let q : y ≡ slotUnmapped z sh t (slotPart sh 0 t xs) =
+      e ∙ rw (caps-lent sh t ea p) (ap₂ (λ (B : ℕ → ℕ) (w : List A). slotUndone B (capsOf sh t) z w) (sym (runs-ones sh t)) (part-lent sh t ea p xs)) in
+      (ap length q ∙ length-taken z sh ok t (slotPart sh 0 t xs) l ∙ omega (arith, p .end), q)
+
+  -- step 8 undone of a slot
+  pub share-taken : {y : List A} → y ≡ secondUndone z (take (s .end - a) (drop a xs))
+      → (length y ≡ s .end - a) × (y ≡ secondUndone z (joined (λ h. slotPart sh h t xs) (subframesOf sh)))
+  share-taken {y} e = (
+    ap length e ∙ undone-length z _ ∙ lent-long sh t ea p xs l full,
+    e ∙ ap (secondUndone z) (part-lent sh t ea p xs ∙ one-part (λ h. slotPart sh h t xs) (one-subframe sh)),
+  )
 
 -- step 8 undone, by the mode
 module _ {A : Type 0} (z : A) (sh : Sheet) (xs : List A) where
@@ -50,92 +62,145 @@ module _ {A : Type 0} (z : A) (sh : Sheet) (xs : List A) where
   unfolding undoneBits
   by-slots e = sym (ap (λ (b : Bool). cond b (secondUndone z xs) (undoneSlots z sh xs)) (ne-eqb (sh .mode) 0 e))
 
--- ---- slots one after the other, each as long as its capacity
+-- ---- the frame cut into slots, and put together again
 
 module _ {A : Type 0} (sh : Sheet) where
-  module _ (g : ℕ → List A) (long : (t : ℕ) → t < sh .slots → length (g t) ≡ slotCapacity sh t) where
-    begin : Begins g (slotStart sh) (sh .slots)
-    unfolding sumTo
-    begin = record { first = refl; next = λ t l. ap (λ (n : ℕ). slotStart sh t + n) (sym (long t l)) }
+  module _ (g : ℕ → ℕ → List A) (long : (h t : ℕ) → h < subframesOf sh → t < sh .slots → length (g h t) ≡ slotCapacity sh t) where
+    length-slots : length (inSlots sh g) ≡ capacityAll sh
+    length-slots = length-rows (slotCapacity sh) g (subframesOf sh) (sh .slots) long
 
-    length-slots : length (joined g (sh .slots)) ≡ capacityAll sh
-    length-slots = length-joined g (slotStart sh) (sh .slots) begin
-
-    slot-of : (t : ℕ) → t < sh .slots → slotPart sh t (joined g (sh .slots)) ≡ g t
+    slot-of : (h t : ℕ) → h < subframesOf sh → t < sh .slots → slotPart sh h t (inSlots sh g) ≡ g h t
     unfolding slotPart
-    slot-of t l =
-        ap (λ (n : ℕ). take n (drop (slotStart sh t) (joined g (sh .slots)))) (sym (long t l))
-        ∙ joined-part g (slotStart sh) (sh .slots) t begin l
+    slot-of h t k l = rows-part (slotCapacity sh) g (subframesOf sh) (sh .slots) long h t k l
 
-  parts-to : (xs : List A) (n : ℕ) → joined (λ t. slotPart sh t xs) n ≡ take (slotStart sh n) xs
-  unfolding joined sumTo slotPart
-  parts-to xs zero = refl
-  parts-to xs (suc n) =
-      ap (λ (l : List A). l ++ slotPart sh n xs) (parts-to xs n) ∙ sym (take-add (slotStart sh n) (slotCapacity sh n) xs)
+  parts-all : (xs : List A) → length xs ≡ capacityAll sh → inSlots sh (λ h t. slotPart sh h t xs) ≡ xs
+  unfolding slotPart
+  parts-all xs full = cut-rows (slotCapacity sh) xs (subframesOf sh) (sh .slots) ∙ take-all (capacityAll sh) xs (omega arith)
 
   -- what is done with each slot's part, and undone
   module _ (f g : ℕ → List A → List A) (keeps : (t : ℕ) (p : List A) → t < sh .slots → length p ≡ slotCapacity sh t → length (g t p) ≡ slotCapacity sh t)
       (undoes : (t : ℕ) (p : List A) → t < sh .slots → length p ≡ slotCapacity sh t → f t (g t p) ≡ p) where
     undone-slots : (xs : List A) → length xs ≡ capacityAll sh
-        → joined (λ t. f t (slotPart sh t (joined (λ k. g k (slotPart sh k xs)) (sh .slots)))) (sh .slots) ≡ xs
+        → inSlots sh (λ h t. f t (slotPart sh h t (inSlots sh (λ i j. g j (slotPart sh i j xs))))) ≡ xs
     undone-slots xs full =
-        let n = length-slot-part sh xs full in
-        joined-same _ (λ t. slotPart sh t xs) (sh .slots)
-        (λ t l. ap (f t) (slot-of (λ k. g k (slotPart sh k xs)) (λ k h. keeps k _ h (n k h)) t l) ∙ undoes t _ l (n t l))
-        ∙ parts-to xs (sh .slots)
-        ∙ take-all (capacityAll sh) xs (omega arith)
+        let n : (h t : ℕ) → h < subframesOf sh → t < sh .slots → length (slotPart sh h t xs) ≡ slotCapacity sh t = λ h t k l. length-slot-part sh t l xs full h k in
+        rows-same _ (λ h t. slotPart sh h t xs) (subframesOf sh) (sh .slots)
+        (λ h t k l. ap (f t) (slot-of (λ i j. g j (slotPart sh i j xs)) (λ i j m o. keeps j _ o (n i j m o)) h t k l) ∙ undoes t _ l (n h t k l))
+        ∙ parts-all xs full
+
+  -- ---- the shares of the slots
+
+  module _ (y : ℕ → List A) (long : (t : ℕ) → t < sh .slots → length (y t) ≡ subframesOf sh * slotCapacity sh t) where
+    shares-begin : Begins y (λ t. subframesOf sh * slotStart sh t) (sh .slots)
+    unfolding sumTo
+    shares-begin =
+        record { first = mul-zero (subframesOf sh); next = λ t l. mul-add (subframesOf sh) (slotStart sh t) (slotCapacity sh t) ∙ ap (λ (n : ℕ). subframesOf sh * slotStart sh t + n) (sym (long t l)) }
+
+    length-shares : length (joined y (sh .slots)) ≡ capacityAll sh
+    length-shares = length-joined y (λ t. subframesOf sh * slotStart sh t) (sh .slots) shares-begin
+
+    share-of : (t : ℕ) → t < sh .slots → slotShare sh t (joined y (sh .slots)) ≡ y t
+    unfolding slotShare
+    share-of t l =
+        ap (λ (n : ℕ). take n (drop (subframesOf sh * slotStart sh t) (joined y (sh .slots)))) (sym (long t l))
+        ∙ joined-part y (λ i. subframesOf sh * slotStart sh i) (sh .slots) t shares-begin l
+
+  shares-all : (xs : List A) → length xs ≡ capacityAll sh → joined (λ t. slotShare sh t xs) (sh .slots) ≡ xs
+  unfolding slotShare sumTo
+  shares-all xs full =
+      cut-joined xs (λ t. subframesOf sh * slotCapacity sh t) (λ t. subframesOf sh * slotStart sh t) (sh .slots) (mul-zero (subframesOf sh)) (λ t l. mul-add (subframesOf sh) (slotStart sh t) (slotCapacity sh t))
+      ∙ take-all (capacityAll sh) xs (omega arith)
+
+  -- a share cut into sub-frames, and put together again
+  module _ (t : ℕ) where
+    share-parts : (ys : List A) → length ys ≡ subframesOf sh * slotCapacity sh t → joined (λ h. sharePart sh h t ys) (subframesOf sh) ≡ ys
+    unfolding sharePart
+    share-parts ys full =
+        cut-joined ys (λ h. slotCapacity sh t) (λ h. h * slotCapacity sh t) (subframesOf sh) (zero-mul (slotCapacity sh t)) (λ h l. suc-mul h (slotCapacity sh t)) ∙ take-all (subframesOf sh * slotCapacity sh t) ys (omega arith)
+
+    module _ (g : ℕ → List A) (long : (h : ℕ) → h < subframesOf sh → length (g h) ≡ slotCapacity sh t) where
+      parts-begin : Begins g (λ h. h * slotCapacity sh t) (subframesOf sh)
+      parts-begin = record { first = zero-mul (slotCapacity sh t); next = λ h l. suc-mul h (slotCapacity sh t) ∙ ap (λ (n : ℕ). h * slotCapacity sh t + n) (sym (long h l)) }
+
+      length-parts : length (joined g (subframesOf sh)) ≡ subframesOf sh * slotCapacity sh t
+      length-parts = length-joined g (λ h. h * slotCapacity sh t) (subframesOf sh) parts-begin
+
+      part-of : (h : ℕ) → h < subframesOf sh → sharePart sh h t (joined g (subframesOf sh)) ≡ g h
+      unfolding sharePart
+      part-of h k =
+          ap (λ (n : ℕ). take n (drop (h * slotCapacity sh t) (joined g (subframesOf sh)))) (sym (long h k)) ∙ joined-part g (λ i. i * slotCapacity sh t) (subframesOf sh) h parts-begin k
 
 -- ---- gathering and spreading undo each other
 
 module _ {A : Type 0} (z : A) (sh : Sheet) (ok : Accepted sh) where
   length-unmapped : (xs : List A) → length (unmappedSlots z sh xs) ≡ capacityAll sh
   unfolding unmappedSlots
-  length-unmapped xs = length-slots sh _ (λ t l. length-taken z sh ok t (slotPart sh t xs) l)
+  length-unmapped xs = length-slots sh _ (λ h t k l. length-taken z sh ok t (slotPart sh h t xs) l)
 
   -- step 9
   module _ (t : ℕ) (p : List A) (l : t < sh .slots) (n : length p ≡ slotCapacity sh t) where
     fills : length p ≡ slotSize (capsOf sh t)
     fills = n ∙ sym (caps-size sh ok t l)
 
-    length-given : length (slotOf (capsOf sh t) p p) ≡ slotCapacity sh t
-    length-given = mapped-length (at (capsOf sh t)) ones (length (capsOf sh t)) p p ∙ n
+    length-given : length (slotMapped sh t p) ≡ slotCapacity sh t
+    length-given = length-mapped sh t l p ∙ n
 
-    taken-given : slotUndone (capsOf sh t) z (slotOf (capsOf sh t) p p) ≡ p
-    taken-given = unmapped-mapped (at (capsOf sh t)) ones (length (capsOf sh t)) (λ k h. omega arith) z p p fills fills
+    taken-given : slotUnmapped z sh t (slotMapped sh t p) ≡ p
+    taken-given = unmapped-mapped (at (capsOf sh t)) (runsOf sh t) (length (capsOf sh t)) (λ k h. runs-some sh t k) z p p fills fills
 
-    given-taken : slotOf (capsOf sh t) (slotUndone (capsOf sh t) z p) (slotUndone (capsOf sh t) z p) ≡ p
+    given-taken : slotMapped sh t (slotUnmapped z sh t p) ≡ p
     given-taken =
-        mapped-unmapped (at (capsOf sh t)) ones (length (capsOf sh t)) (λ k h. omega arith) z p (slotUndone (capsOf sh t) z p) fills
-        (unmapped-length (at (capsOf sh t)) ones (length (capsOf sh t)) z p)
+        mapped-unmapped (at (capsOf sh t)) (runsOf sh t) (length (capsOf sh t)) (λ k h. runs-some sh t k) z p (slotUnmapped z sh t p) fills
+        (unmapped-length (at (capsOf sh t)) (runsOf sh t) (length (capsOf sh t)) z p)
 
   module _ (xs : List A) (full : length xs ≡ capacityAll sh) where
     unmapped-again : unmappedSlots z sh (mappedSlots sh xs) ≡ xs
     unfolding unmappedSlots mappedSlots
-    unmapped-again = undone-slots sh (λ t p. slotUndone (capsOf sh t) z p) (λ t p. slotOf (capsOf sh t) p p) length-given taken-given xs full
+    unmapped-again = undone-slots sh (slotUnmapped z sh) (slotMapped sh) length-given taken-given xs full
 
     mapped-again : mappedSlots sh (unmappedSlots z sh xs) ≡ xs
     unfolding unmappedSlots mappedSlots
-    mapped-again =
-        undone-slots sh (λ t p. slotOf (capsOf sh t) p p) (λ t p. slotUndone (capsOf sh t) z p) (λ t p l n. length-taken z sh ok t p l) given-taken xs full
+    mapped-again = undone-slots sh (slotMapped sh) (slotUnmapped z sh) (λ t p l n. length-taken z sh ok t p l) given-taken xs full
 
-    -- step 8 in mode 1
+    -- step 8 in mode 1: the parts of a slot are its share again
+    shared : (t : ℕ) → t < sh .slots
+        → joined (λ h. slotPart sh h t (interleavedSlots sh xs)) (subframesOf sh) ≡ secondInterleaved (slotShare sh t xs)
+    unfolding interleavedSlots
+    shared t l =
+        joined-same _ (λ h. sharePart sh h t (secondInterleaved (slotShare sh t xs))) (subframesOf sh)
+        (λ h k. slot-of sh (λ i j. sharePart sh i j (secondInterleaved (slotShare sh j xs))) (λ i j m o. length-share-made sh j o xs full i m) h t k l)
+        ∙ share-parts sh t (secondInterleaved (slotShare sh t xs)) (second-length (slotShare sh t xs) ∙ length-share sh t l xs full)
+
     undone-by-slots : undoneSlots z sh (interleavedSlots sh xs) ≡ xs
-    unfolding undoneSlots interleavedSlots
+    unfolding undoneSlots
     undone-by-slots =
-        undone-slots sh (λ t p. secondUndone z p) (λ t p. secondInterleaved p) (λ t p l n. second-length p ∙ n) (λ t p l n. second-undone z p) xs full
+        joined-same _ (λ t. slotShare sh t xs) (sh .slots) (λ t l. ap (secondUndone z) (shared t l) ∙ second-undone z (slotShare sh t xs))
+        ∙ shares-all sh xs full
+
+    part-long : (t : ℕ) → t < sh .slots → (h : ℕ) → h < subframesOf sh → length (slotPart sh h t xs) ≡ slotCapacity sh t
+    part-long t l h k = length-slot-part sh t l xs full h k
+
+    long-undone : (t : ℕ) → t < sh .slots → length (secondUndone z (joined (λ h. slotPart sh h t xs) (subframesOf sh))) ≡ subframesOf sh * slotCapacity sh t
+    long-undone t l = undone-length z _ ∙ length-parts sh t (λ h. slotPart sh h t xs) (part-long t l)
 
     redone-by-slots : interleavedSlots sh (undoneSlots z sh xs) ≡ xs
     unfolding undoneSlots interleavedSlots
     redone-by-slots =
-        undone-slots sh (λ t p. secondInterleaved p) (λ t p. secondUndone z p) (λ t p l n. undone-length z p ∙ n) (λ t p l n. second-redone z p) xs full
+        rows-same _ (λ h t. slotPart sh h t xs) (subframesOf sh) (sh .slots)
+        (λ h t k l.
+        ap (λ (y : List A). sharePart sh h t (secondInterleaved y))
+        (share-of sh (λ j. secondUndone z (joined (λ i. slotPart sh i j xs) (subframesOf sh))) long-undone t l)
+        ∙ ap (sharePart sh h t) (second-redone z (joined (λ i. slotPart sh i t xs) (subframesOf sh)))
+        ∙ part-of sh t (λ i. slotPart sh i t xs) (part-long t l) h k)
+        ∙ parts-all sh xs full
 
     length-by-slots : length (interleavedSlots sh xs) ≡ capacityAll sh
     unfolding interleavedSlots
-    length-by-slots = length-slots sh _ (λ t l. second-length (slotPart sh t xs) ∙ length-slot-part sh xs full t l)
+    length-by-slots = length-slots sh _ (λ h t k l. length-share-made sh t l xs full h k)
 
     length-undone-slots : length (undoneSlots z sh xs) ≡ capacityAll sh
     unfolding undoneSlots
-    length-undone-slots = length-slots sh _ (λ t l. undone-length z (slotPart sh t xs) ∙ length-slot-part sh xs full t l)
+    length-undone-slots = length-shares sh _ long-undone
 
     -- and by the mode
     length-interleaved : length (interleavedBits sh xs) ≡ capacityAll sh

@@ -83,8 +83,8 @@ labelled sh ok number frame full =
 
 -- where the soft value at each place is f of the name that is calculated for it
 pub by-names : (sh : Sheet) → Accepted sh → (number : ℕ) (f : Name → Float) (frame : List Float) → length frame ≡ capacityAll sh
-    → ((slot phch place : ℕ) → Exists sh slot phch place
-    → getD frame (indexOf sh slot phch place) nan ≡ f (nameOf sh number slot phch place))
+    → ((subframe slot phch place : ℕ) → Exists sh subframe slot phch place
+    → getD frame (indexOf sh subframe slot phch place) nan ≡ f (nameOf sh number subframe slot phch place))
     → frame ≡ map f (labelFrame sh number)
 by-names sh ok number f frame full at =
     let ns = labelFrame sh number in
@@ -94,7 +94,7 @@ by-names sh ok number f frame full at =
     (λ x h.
     let a = index-onto sh x (omega arith) in
     ap (λ (k : ℕ). getD frame k nan) (sym (a .index))
-    ∙ at (a .slot) (a .phch) (a .place) (a .there)
-    ∙ ap f (sym (names sh ok number (a .slot) (a .phch) (a .place) (a .there) o))
+    ∙ at (a .subframe) (a .slot) (a .phch) (a .place) (a .there)
+    ∙ ap f (sym (names sh ok number (a .subframe) (a .slot) (a .phch) (a .place) (a .there) o))
     ∙ ap (λ (k : ℕ). f (getD ns k o)) (a .index)
     ∙ sym (map-at f ns x nan o (omega arith)))

@@ -1,21 +1,22 @@
 -- Laws of taking a channel's segment out of its values.
-use mathlib.Core.Path.{_≡_, refl, sym, ap, ap₂, _∙_}
-use mathlib.Core.Bool.{false}
-use mathlib.Core.List.{List, [], _∷_, _++_, map, append-assoc}
-use Prim.Native.Nat.{ℕ, zero, suc, _+_, _*_, _-_, _%_, _≤_, _<_}
+use mathlib.Core.Path.{_≡_, sym, ap, ap₂, _∙_}
+use mathlib.Core.List.{List, [], map}
+use Prim.Native.Nat.{ℕ, suc, _+_, _*_, _-_, _%_, _≤_, _<_}
 use native.Mathlib.Nat.{suc-mul, mul-le-mul-right}
 use native.Mathlib.Numerals.{add-one}
 use native.Mathlib.Omega.{arith}
-use lib.IntN.{ℤ, pos, negsuc, natAbs}
+use lib.IntN.{ℤ, natAbs}
 use lib.Ieee.{Float}
-use borrow.Rule.Slice.PartMut.{putMid, post-is}
+use borrow.Rule.Slice.PartMut.{putMid}
 use lib.ListN.{length, getD, take, drop}
-use lib.Seq.{sets, sets-eq}
+use lib.Seq.{sets}
+use Rattle.laws.proofs.StoreLaws.{put-back}
 use Rattle.sheet.specs.Sizes.{framesOf, sizeOf}
 use Rattle.sheet.specs.declared.Sheet.{Sheet}
 use Rattle.matching.specs.Signed.{signedBy}
 use Rattle.matching.specs.Shares.{changeOf, channelPart}
-use Rattle.pattern.specs.Pattern.{again, grown, after, sharedFrom, shared}
+use Rattle.pattern.specs.Pattern.{shared}
+use Rattle.pattern.proofs.StartLaws.{shared-start}
 use Rattle.matching.proofs.SignedLaws.{magnitude}
 use Rattle.frame.specs.Frame.{startAt}
 use Rattle.frame.specs.Walk.{Walks}
@@ -30,20 +31,6 @@ use Rattle.opening.proofs.OpenLaws.{low-is}
 use Rattle.frame.proofs.SendLaws.{cut-share}
 use Rattle.homing.specs.Home.{channelStart, segmentStart}
 use Rattle.homing.specs.Taking.{homeIn, hearIn, surveyIn, takenFrom}
-
--- where there is no bit, or d = 0, no start counts
-shared-same : (P e s n : ℕ) (vs : List Float) → sharedFrom false P 0 e n vs ≡ sharedFrom false P 0 s n vs
-unfolding again grown sharedFrom
-shared-same P e s zero vs = refl
-shared-same P e s (suc n) vs =
-    ap (λ (l : List (List Float)). take 1 vs ∷ l) (shared-same P (after false P 0 e) (after false P 0 s) n (drop 1 vs))
-
-shared-start : (d : ℤ) (N e s : ℕ) (vs : List Float) → (0 < N → 0 < natAbs d → e ≡ s) → shared d N e vs ≡ shared d N s vs
-unfolding shared sharedFrom
-shared-start d zero e s vs h = refl
-shared-start (pos zero) (suc N) e s vs h = shared-same (2 * suc N) e s (suc N) vs
-shared-start (pos (suc a)) (suc N) e s vs h = ap (λ (k : ℕ). shared (pos (suc a)) (suc N) k vs) (h (omega arith) (omega arith))
-shared-start (negsuc a) (suc N) e s vs h = ap (λ (k : ℕ). shared (negsuc a) (suc N) k vs) (h (omega arith) (omega arith))
 
 module _ (sh : Sheet) (number i : ℕ) (w : Walk) (k : Walks sh number i w) (vs : List Float) where
   shares : shared (signedBy (w .less) (w .m)) (w .n) (w .e) vs ≡ shared (changeOf sh i) (sizeOf sh i) (startAt sh number i) vs
@@ -70,14 +57,6 @@ module _ (sh : Sheet) (number i : ℕ) (w : Walk) (k : Walks sh number i w) (vs 
 -- segment k of f ends within them
 pub segment-ends : (k f size : ℕ) → k < f → k * size + size ≤ f * size
 segment-ends k f size h = omega (arith, mul-le-mul-right {m = suc k} {n = f} size h, suc-mul k size)
-
--- a part of the buffer was lent and came back as y
-put-back : {A : Type 0} (l y : List A) (a e : ℕ) → a ≤ e → e ≤ length l → length y ≡ e - a → putMid a (e - a) l y ≡ sets l a y
-put-back l y a e h b n =
-    let q : a + length y ≡ e = omega arith in
-    ap (λ (x : List _). take a l ++ (y ++ x)) (post-is a e l h ∙ ap (λ (x : ℕ). drop x l) (sym q))
-    ∙ sym (append-assoc (take a l) y (drop (a + length y) l))
-    ∙ sym (sets-eq y l a (omega arith))
 
 -- one channel more
 module _ (o : Opened) (h : Opens o) (number : ℕ) (ms old l : List Float) (i base from : ℕ) (inside : i < o .fields .channels) where

@@ -1,6 +1,6 @@
 -- "Only the segments of this frame are written": what stands at each position of the buffer after a frame was taken back.
 use mathlib.Core.Path.{_≡_, refl, sym, ap, _∙_}
-use mathlib.Core.List.{List, [], _∷_}
+use mathlib.Core.List.{List}
 use Prim.Native.Nat.{ℕ, zero, suc, _+_, _*_, _/_, _%_, _≤_, _<_}
 use native.Mathlib.Nat.{mod-lt, suc-mul, mul-le-mul-right}
 use native.Mathlib.Decide.{ℕ-discrete}
@@ -8,10 +8,11 @@ use native.Mathlib.Omega.{arith}
 use lib.Arith.{lt-of-le-ne, digits-lt, digits-div}
 use lib.Pow.{pow-pos}
 use lib.Ieee.{Float}
-use lib.ListN.{length, getD, set, length-set}
-use lib.Seq.{sets, length-sets, getD-set-same, getD-set-other}
+use lib.ListN.{length, getD}
+use lib.Seq.{length-sets}
 use Rattle.laws.specs.Sums.{sumTo}
 use Rattle.laws.proofs.SumLaws.{sum-within, parts-apart}
+use Rattle.laws.proofs.StoreLaws.{sets-outside, sets-inside}
 use Rattle.sheet.specs.Fields.{ttiOf}
 use Rattle.sheet.specs.Sizes.{framesOf, sizeOf, equalisedOf, equalisedAll}
 use Rattle.sheet.specs.declared.Sheet.{Sheet}
@@ -20,27 +21,6 @@ use Rattle.frame.specs.Frame.{startAt}
 use Rattle.joining.proofs.HomeLaws.{length-home}
 use Rattle.homing.specs.Home.{heardIn, segmentHome, channelStart, segmentStart, takenTo, takenBack}
 use Rattle.homing.specs.Received.{Outside}
-
--- ---- a run of stores, element by element
-
-module _ {A : Type 0} where
-  sets-outside : (vs l : List A) (i x : ℕ) (d : A) → ((m : ℕ) → m < length vs → x ≡ i + m → ⊥) → getD (sets l i vs) x d ≡ getD l x d
-  sets-outside [] l i x d h = refl
-  sets-outside (v ∷ vs) l i x d h =
-      sets-outside vs (set l i v) (suc i) x d (λ m k e. h (suc m) (omega arith) (omega arith))
-      ∙ getD-set-other l i x v d (λ e. h 0 (omega arith) (omega arith))
-
-  sets-inside : (vs l : List A) (i m : ℕ) (d : A) → i + length vs ≤ length l → m < length vs → getD (sets l i vs) (i + m) d ≡ getD vs m d
-  sets-inside [] l i m d h k = absurd (omega arith)
-  sets-inside (v ∷ vs) l i zero d h k =
-      let e : i + 0 ≡ i = omega arith in
-      sets-outside vs (set l i v) (suc i) (i + 0) d (λ m k e. omega arith)
-      ∙ ap (λ (x : ℕ). getD (set l i v) x d) e
-      ∙ getD-set-same l i v d (omega arith)
-  sets-inside (v ∷ vs) l i (suc m) d h k =
-      let e : i + suc m ≡ suc i + m = omega arith in
-      ap (λ (x : ℕ). getD (sets (set l i v) (suc i) vs) x d) e
-      ∙ sets-inside vs (set l i v) (suc i) m d (omega (arith, length-set l i v)) (omega arith)
 
 -- ---- the positions of the buffer: bit m of segment n of channel i
 

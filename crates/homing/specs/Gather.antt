@@ -1,21 +1,27 @@
 -- Steps 9 and 8 undone: the values of a frame in the order of the multiplexed frame. Each place is read once; z is read nowhere.
 use mathlib.Core.Bool.{cond}
 use mathlib.Core.List.{List}
+use Prim.Native.Nat.{ℕ}
 use lib.Dec.{eqb}
 use Rattle.laws.specs.Joined.{joined}
+use Rattle.sheet.specs.Sizes.{subframesOf}
 use Rattle.sheet.specs.declared.Sheet.{Sheet}
 use Rattle.interleaving.specs.Second.{secondUndone}
 use Rattle.mapping.specs.Mapping.{slotUndone}
-use Rattle.frame.specs.Frame.{capsOf, slotPart}
+use Rattle.frame.specs.Frame.{capsOf, runsOf, slotPart, inSlots}
 
 module _ {A : Type 0} (z : A) where
-  -- step 9 undone, slot after slot: what stands at the place of the slot's bit 1, 2, ..
-  unfoldable pub unmappedSlots : Sheet → List A → List A
-  unmappedSlots sh xs = joined (λ t. slotUndone (capsOf sh t) z (slotPart sh t xs)) (sh .slots)
+  -- step 9 of one slot undone: what stands at the place of the slot's bit 1, 2, ..
+  abbrev pub slotUnmapped : Sheet → ℕ → List A → List A
+  slotUnmapped sh t w = slotUndone (runsOf sh t) (capsOf sh t) z w
 
-  -- step 8 undone, each slot by itself: mode 1
+  -- of all slots of all sub-frames
+  unfoldable pub unmappedSlots : Sheet → List A → List A
+  unmappedSlots sh xs = inSlots sh (λ h t. slotUnmapped sh t (slotPart sh h t xs))
+
+  -- step 8 undone in mode 1: the parts of a slot in all sub-frames are its share, and each share is undone by itself
   unfoldable pub undoneSlots : Sheet → List A → List A
-  undoneSlots sh xs = joined (λ t. secondUndone z (slotPart sh t xs)) (sh .slots)
+  undoneSlots sh xs = joined (λ t. secondUndone z (joined (λ h. slotPart sh h t xs) (subframesOf sh))) (sh .slots)
 
   -- step 8 undone, by the mode
   unfoldable pub undoneBits : Sheet → List A → List A

@@ -5,10 +5,9 @@ ghost use lib.ListN.{length};
 ghost use Rattle.sheet.specs.Sizes.{capacityAll};
 ghost use Rattle.sheet.specs.Range.{Accepted};
 ghost use Rattle.homing.specs.Gather.{unmappedSlots, undoneSlots, undoneBits, gathered};
+use frame::spreading::span_of;
 use sheet::Sheet;
 use sheet::count;
-use sheet::counts::CODES;
-use sheet::sizes::slot_load;
 
 // Step 9 undone, slot after slot.
 fn unmap_slots(frame: &[f32], fields: Sheet, out: &mut [f32])
@@ -20,11 +19,10 @@ fn unmap_slots(frame: &[f32], fields: Sheet, out: &mut [f32])
     let mut t: usize = 0;
     let mut a: usize = 0;
     while t < count(fields.slots) {
-        let from = CODES * t;
-        let n = count(phchs[t]);
-        let to = from + n;
-        let one = slot_load(&caps, from, n);
-        let e = a + one.sum as usize;
+        let s = span_of(&phchs, &caps, t, a);
+        let from = s.from;
+        let to = s.to;
+        let e = s.end;
         mapping::unmap_slot(&frame[a..e], &caps[from..to], &mut out[a..e]);
         a = e;
         t += 1;
@@ -41,8 +39,8 @@ fn undo_slots(values: &[f32], fields: Sheet, out: &mut [f32])
     let mut t: usize = 0;
     let mut a: usize = 0;
     while t < count(fields.slots) {
-        let one = slot_load(&caps, CODES * t, count(phchs[t]));
-        let e = a + one.sum as usize;
+        let s = span_of(&phchs, &caps, t, a);
+        let e = s.end;
         interleaving::second::deinterleave(&values[a..e], &mut out[a..e]);
         a = e;
         t += 1;

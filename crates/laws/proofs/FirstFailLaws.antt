@@ -102,3 +102,15 @@ module _ {A : Type 0} (ok : A → Bool) where
           ≡ b && eqb (firstFail ok (drop (suc i) xs)) (length (drop (suc i) xs))
       go true = eqb·suc-suc (firstFail ok (drop (suc i) xs)) (length (drop (suc i) xs))
       go false = eqb·zero-suc (length (drop (suc i) xs))
+
+module _ {A : Type 0} (test : A → Bool) where
+  -- a test that each element passes
+  pub passes-at : (xs : List A) (i : ℕ) (d : A) → NoneFails test xs → i < length xs → test (getD xs i d) ≡ true
+  passes-at [] i d h l = absurd (omega arith)
+  passes-at (x ∷ xs) zero d h l = none-first test x xs h
+  passes-at (x ∷ xs) (suc i) d h l = passes-at xs i d (none-rest test x xs h) (omega arith)
+
+  pub passes-all : (xs : List A) (d : A) → ((i : ℕ) → i < length xs → test (getD xs i d) ≡ true) → NoneFails test xs
+  unfolding firstFail
+  passes-all [] d h = refl
+  passes-all (x ∷ xs) d h = none-cons test x xs (h 0 (omega arith)) (passes-all xs d (λ i l. h (suc i) (omega arith)))

@@ -6,7 +6,7 @@ use native.Mathlib.Omega.{arith}
 use native.Mathlib.Decide.{ℕ-discrete}
 use lib.Arith.{lt-of-le-ne}
 use lib.ListN.{length, getD, take, drop, length-append, length-drop, List·getD-append}
-use lib.Seq.{getD-append-add, take-length, take-append-le, drop-at, drop-append-le}
+use lib.Seq.{getD-append-add, take-length, take-add, take-append-le, drop-at, drop-append-le}
 use Rattle.laws.specs.Joined.{joined}
 
 -- each list begins where the one before it ends
@@ -92,3 +92,18 @@ pub joined-same : {A : Type 0} (g h : ℕ → List A) (n : ℕ) → ((i : ℕ) �
 unfolding joined
 joined-same g h zero e = refl
 joined-same g h (suc n) e = ap₂ _++_ (joined-same g h n (λ i l. e i (omega arith))) (e n (omega arith))
+
+-- a list cut into parts, c i long from L i on, and joined again
+pub cut-joined : {A : Type 0} (xs : List A) (c L : ℕ → ℕ) (n : ℕ) → L 0 ≡ 0 → ((i : ℕ) → i < n → L (suc i) ≡ L i + c i)
+    → joined (λ i. take (c i) (drop (L i) xs)) n ≡ take (L n) xs
+unfolding joined
+cut-joined xs c L zero z e = ap (λ (k : ℕ). take k xs) (sym z)
+cut-joined xs c L (suc n) z e =
+    ap (λ (l : List _). l ++ take (c n) (drop (L n) xs)) (cut-joined xs c L n z (λ i l. e i (omega arith)))
+    ∙ sym (take-add (L n) (c n) xs)
+    ∙ ap (λ (k : ℕ). take k xs) (sym (e n (omega arith)))
+
+-- one list alone
+pub one-part : {A : Type 0} (g : ℕ → List A) {n : ℕ} → n ≡ 1 → g 0 ≡ joined g n
+unfolding joined
+one-part g e = ap (joined g) (sym e)

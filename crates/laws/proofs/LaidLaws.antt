@@ -2,11 +2,13 @@
 use mathlib.Core.Path.{_≡_, refl, sym, ap, ap₂, _∙_}
 use mathlib.Core.List.{List, [], _++_, append-nil, append-assoc}
 use Prim.Native.Nat.{ℕ, _+_, _-_, _≤_}
+use native.Mathlib.Numerals.{add-one}
 use native.Mathlib.Omega.{arith}
 use borrow.Rule.Slice.PartMut.{putMid, post-is}
 use lib.ListN.{length, take, drop, length-append, length-drop}
 use lib.Seq.{paste, take-at, take-length, drop-append-add, drop-drop, drop-length}
 use Rattle.laws.specs.Laid.{Laid}
+use Rattle.laws.specs.Joined.{joined}
 
 module _ {A : Type 0} where
   pub laid-none : (o : List A) → Laid o o 0 []
@@ -56,3 +58,11 @@ module _ {A : Type 0} where
   pub laid-all : (o out : List A) (at : ℕ) (l : List A) → Laid o out at l → at ≡ length o → out ≡ l
   laid-all o out at l h e =
       h .text ∙ ap (λ (x : List A). l ++ x) (ap (λ (x : ℕ). drop x o) e ∙ drop-length o) ∙ append-nil l
+
+-- one list more of those that are joined, written from a up to e
+pub laid-joined : {A : Type 0} (g : ℕ → List A) (o out : List A) (a e t : ℕ) {y : List A} → Laid o out a (joined g t) → a ≤ e → length y ≡ e - a
+    → y ≡ g t → Laid o (putMid a (e - a) out y) e (joined g (t + 1))
+unfolding joined
+laid-joined g o out a e t {y} h b n q =
+    let r : joined g t ++ y ≡ joined g (t + 1) = ap (λ l. joined g t ++ l) q ∙ ap (joined g) (sym (add-one t)) in
+    rw r at (laid-part o out a (joined g t) y e h b n)

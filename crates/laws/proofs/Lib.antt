@@ -2,9 +2,13 @@ pub mod SumLaws
 pub mod TableLaws
 pub mod TestLaws
 pub mod LaidLaws
+pub mod StoreLaws
 pub mod LeastLaws
 pub mod JoinedLaws
+pub mod RowLaws
+pub mod FallLaws
 pub mod PartLaws
 pub mod FillingLaws
 pub mod TodoLaws
 pub mod FirstFailLaws
+pub mod AboveLaws

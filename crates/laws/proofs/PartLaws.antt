@@ -1,11 +1,11 @@
 -- Laws of lists that are mapped, and of parts of a list.
 use mathlib.Core.Path.{_≡_, refl, sym, ap, _∙_}
 use mathlib.Core.List.{List, [], _∷_, _++_, map, flatten}
-use Prim.Native.Nat.{ℕ, zero, suc, _+_, _*_, _<_}
+use Prim.Native.Nat.{ℕ, zero, suc, _+_, _-_, _*_, _≤_, _<_}
 use native.Mathlib.Nat.{zero-mul, suc-mul}
 use native.Mathlib.Omega.{arith}
-use lib.ListN.{length, getD, set, take, drop, replicate}
-use lib.Seq.{take-add, take-all, drop-drop}
+use lib.ListN.{length, getD, set, take, drop, replicate, length-append, length-drop}
+use lib.Seq.{length-take-le, take-add, take-all, drop-drop}
 use Rattle.laws.specs.Tables.{table}
 
 module _ {A B : Type 0} (g : A → B) where
@@ -57,3 +57,11 @@ module _ {A : Type 0} (n : ℕ) (l : List A) where
   pub parts-joined : (m : ℕ) → length l ≡ m * n → flatten (table (λ i. take n (drop (i * n) l)) 0 m) ≡ l
   parts-joined m e =
       parts-from 0 m ∙ ap (λ (j : ℕ). take (m * n) (drop j l)) (zero-mul n) ∙ take-all (m * n) l (omega arith)
+
+-- a part of a list from a up to e
+pub part-length : {A : Type 0} (xs : List A) (a e : ℕ) → a ≤ e → e ≤ length xs → length (take (e - a) (drop a xs)) ≡ e - a
+part-length xs a e h b = length-take-le (e - a) (drop a xs) (omega (arith, length-drop a xs))
+
+-- a list whose beginning was lent is as long as before
+pub prefix-long : {A : Type 0} (xs y : List A) (n : ℕ) → length y ≡ length (take n xs) → n ≤ length xs → length (y ++ drop n xs) ≡ length xs
+prefix-long xs y n e b = length-append y (drop n xs) ∙ omega (arith, length-take-le n xs b, length-drop n xs)

@@ -6,3 +6,7 @@ use Prim.Native.Nat.{ℕ, zero, suc}
 unfoldable pub joined : {A : Type 0} → (ℕ → List A) → ℕ → List A
 joined g zero = []
 joined g (suc n) = joined g n ++ g n
+
+-- m rows of n lists each, row after row
+unfoldable pub inRows : {A : Type 0} → (ℕ → ℕ → List A) → ℕ → ℕ → List A
+inRows g m n = joined (λ h. joined (g h) n) m

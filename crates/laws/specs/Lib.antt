@@ -5,3 +5,4 @@ pub mod Least
 pub mod Joined
 pub mod Filling
 pub mod FirstFail
+pub mod Above

@@ -30,9 +30,9 @@ module _ (sh : Sheet) (ok : Accepted sh) (contents : List ℕ) (all : length con
       (bit-filled sh contents all i (omega (arith, s .channel-from, s .channel-to)) ok (n .bit - 1) (omega arith)
       (omega (arith, s .bit-from, s .bit-to))))
 
-  pub contents-at : (frame slot phch place : ℕ) → Exists sh slot phch place
-      → getD (bitFrame sh frame contents) (indexOf sh slot phch place) 0 ≡ contentOf sh contents (nameOf sh frame slot phch place)
+  pub contents-at : (frame subframe slot phch place : ℕ) → Exists sh subframe slot phch place
+      → getD (bitFrame sh frame contents) (indexOf sh subframe slot phch place) 0 ≡ contentOf sh contents (nameOf sh frame subframe slot phch place)
   unfolding bitFrame
-  contents-at frame slot phch place there =
-      stands sh ok frame slot phch place there asIs (bitsOf sh contents) (λ i l. length-bits sh contents all i l ok) 0 0
-      ∙ content-at (nameOf sh frame slot phch place) (named-inside sh ok frame slot phch place there)
+  contents-at frame subframe slot phch place there =
+      stands sh ok frame subframe slot phch place there asIs (bitsOf sh contents) (λ i l. length-bits sh contents all i l ok) 0 0
+      ∙ content-at (nameOf sh frame subframe slot phch place) (named-inside sh ok frame subframe slot phch place there)

@@ -17,23 +17,23 @@ use Rattle.naming.specs.Name.{Name, Label, labelAt, labels, copyNamed, l
 use Rattle.naming.proofs.Multiplexed.{multiplexed-at, name-inside}
 use Rattle.naming.proofs.Slots.{index-below, placed-at}
 
-module _ (sh : Sheet) (ok : Accepted sh) (frame slot phch place : ℕ) (there : Exists sh slot phch place)
+module _ (sh : Sheet) (ok : Accepted sh) (frame subframe slot phch place : ℕ) (there : Exists sh subframe slot phch place)
   where
     -- what stands at a place of any frame is what its name says
     pub stands : {A B : Type 0} (f : A → ℕ → B) (ts : ℕ → List A) → ((i : ℕ) → i < sh .channels → length (ts i) ≡ equalisedOf sh i) → (b : B) (z : A)
-        → getD (frameOf f sh frame ts) (indexOf sh slot phch place) b
-        ≡ f (getD (ts (nameOf sh frame slot phch place .channel - 1)) (nameOf sh frame slot phch place .bit - 1) z)
-        (nameOf sh frame slot phch place .copy)
+        → getD (frameOf f sh frame ts) (indexOf sh subframe slot phch place) b
+        ≡ f (getD (ts (nameOf sh frame subframe slot phch place .channel - 1)) (nameOf sh frame subframe slot phch place .bit - 1) z)
+        (nameOf sh frame subframe slot phch place .copy)
     unfolding frameOf nameOf
     stands f ts full b z =
-        placed-at sh slot phch place there ok (multiplexed f sh frame ts) b (length-multiplexed f sh ok frame ts full)
-        ∙ multiplexed-at f sh ok frame ts full (multiplexedAt sh slot phch place) b z (index-below sh slot phch place there)
+        placed-at sh subframe slot phch place there ok (multiplexed f sh frame ts) b (length-multiplexed f sh ok frame ts full)
+        ∙ multiplexed-at f sh ok frame ts full (multiplexedAt sh subframe slot phch place) b z (index-below sh subframe slot phch place there)
 
 -- the channel and the bit of a place's name exist
-pub named-inside : (sh : Sheet) → Accepted sh → (frame slot phch place : ℕ) → Exists sh slot phch place → Inside sh (nameOf sh frame slot phch place)
+pub named-inside : (sh : Sheet) → Accepted sh → (frame subframe slot phch place : ℕ) → Exists sh subframe slot phch place → Inside sh (nameOf sh frame subframe slot phch place)
 unfolding nameOf
-named-inside sh ok frame slot phch place there =
-    name-inside sh ok frame (multiplexedAt sh slot phch place) (index-below sh slot phch place there)
+named-inside sh ok frame subframe slot phch place there =
+    name-inside sh ok frame (multiplexedAt sh subframe slot phch place) (index-below sh subframe slot phch place there)
 
 pub labels-full : (sh : Sheet) (i : ℕ) → i < sh .channels → length (labels sh i) ≡ equalisedOf sh i
 unfolding labels
@@ -50,15 +50,15 @@ label-named sh n s z =
     ∙ ap₂ (λ (c b : ℕ). copyNamed (record { channel = c; bit = b }) (n .copy)) qc qb
 
 -- S5
-pub names : (sh : Sheet) → Accepted sh → (frame slot phch place : ℕ) → Exists sh slot phch place → (d : Name)
-    → getD (labelFrame sh frame) (indexOf sh slot phch place) d ≡ nameOf sh frame slot phch place
+pub names : (sh : Sheet) → Accepted sh → (frame subframe slot phch place : ℕ) → Exists sh subframe slot phch place → (d : Name)
+    → getD (labelFrame sh frame) (indexOf sh subframe slot phch place) d ≡ nameOf sh frame subframe slot phch place
 unfolding labelFrame
-names sh ok frame slot phch place there d =
+names sh ok frame subframe slot phch place there d =
     let z : Label = record { channel = 0; bit = 0 } in
-    stands sh ok frame slot phch place there copyNamed (labels sh) (labels-full sh) d z
-    ∙ label-named sh (nameOf sh frame slot phch place) (named-inside sh ok frame slot phch place there) z
+    stands sh ok frame subframe slot phch place there copyNamed (labels sh) (labels-full sh) d z
+    ∙ label-named sh (nameOf sh frame subframe slot phch place) (named-inside sh ok frame subframe slot phch place there) z
 
 -- of the bytes of any accepted sheet
-pub names-read : (s : List ℕ) → readNumber s ≡ 0 → (frame slot phch place : ℕ) → Exists (sheetOf s) slot phch place → (d : Name)
-    → getD (labelFrame (sheetOf s) frame) (indexOf (sheetOf s) slot phch place) d ≡ nameOf (sheetOf s) frame slot phch place
+pub names-read : (s : List ℕ) → readNumber s ≡ 0 → (frame subframe slot phch place : ℕ) → Exists (sheetOf s) subframe slot phch place → (d : Name)
+    → getD (labelFrame (sheetOf s) frame) (indexOf (sheetOf s) subframe slot phch place) d ≡ nameOf (sheetOf s) frame subframe slot phch place
 names-read s z = names (sheetOf s) (accepted-in s z)

@@ -65,14 +65,14 @@ module _ (sh : Sheet) (ok : Accepted sh) (frame i m : ℕ) (l : i < sh .channels
     unfolding nameOf
     somewhere =
         let p = place-onto sh spot spot-below in
-        record { slot = p .slot; phch = p .phch; place = p .place; there = p .there; named = ap (nameAt sh frame) (p .index) ∙ spot-name }
+        record { subframe = p .subframe; slot = p .slot; phch = p .phch; place = p .place; there = p .there; named = ap (nameAt sh frame) (p .index) ∙ spot-name }
 
   -- what is named somewhere is a copy that is sent
   is-sent : (j : ℕ) → NamedBy sh frame i m j → j < sent
   unfolding nameOf nameAt bitName
   is-sent j w =
-      let x = multiplexedAt sh (w .slot) (w .phch) (w .place) in
-      let p = lies sh ok x (index-below sh (w .slot) (w .phch) (w .place) (w .there)) in
+      let x = multiplexedAt sh (w .subframe) (w .slot) (w .phch) (w .place) in
+      let p = lies sh ok x (index-below sh (w .subframe) (w .slot) (w .phch) (w .place) (w .there)) in
       let c = channelOf sh x in
       let v = x - cutOf sh c in
       let e : c ≡ i = omega (arith, ap (λ (n : Name). n .channel) (w .named)) in
@@ -104,19 +104,20 @@ module _ (sh : Sheet) (ok : Accepted sh) (frame : ℕ) where
   labels-apart x y d h k e =
       let a = index-onto sh x h in
       let b = index-onto sh y k in
-      let n = names sh ok frame (a .slot) (a .phch) (a .place) (a .there) d in
-      let m = names sh ok frame (b .slot) (b .phch) (b .place) (b .there) d in
-      let e′ : nameOf sh frame (a .slot) (a .phch) (a .place) ≡ nameOf sh frame (b .slot) (b .phch) (b .place) =
+      let n = names sh ok frame (a .subframe) (a .slot) (a .phch) (a .place) (a .there) d in
+      let m = names sh ok frame (b .subframe) (b .slot) (b .phch) (b .place) (b .there) d in
+      let e′ : nameOf sh frame (a .subframe) (a .slot) (a .phch) (a .place) ≡ nameOf sh frame (b .subframe) (b .slot) (b .phch) (b .place) =
       sym n
       ∙ ap (λ (i : ℕ). getD (labelFrame sh frame) i d) (a .index)
       ∙ e
       ∙ ap (λ (i : ℕ). getD (labelFrame sh frame) i d) (sym (b .index))
       ∙ m in
-      let w = apart sh ok frame (a .slot) (a .phch) (a .place) (b .slot) (b .phch) (b .place) (a .there) (b .there) e′ in
+      let w = apart sh ok frame (a .subframe) (a .slot) (a .phch) (a .place) (b .subframe) (b .slot) (b .phch) (b .place) (a .there) (b .there) e′ in
       sym (a .index)
-      ∙ ap (λ (s : ℕ). indexOf sh s (a .phch) (a .place)) (w .0)
-      ∙ ap (λ (p : ℕ). indexOf sh (b .slot) p (a .place)) (w .1)
-      ∙ ap (indexOf sh (b .slot) (b .phch)) (w .2)
+      ∙ ap (λ (h : ℕ). indexOf sh h (a .slot) (a .phch) (a .place)) (w .0)
+      ∙ ap (λ (s : ℕ). indexOf sh (b .subframe) s (a .phch) (a .place)) (w .1)
+      ∙ ap (λ (p : ℕ). indexOf sh (b .subframe) (b .slot) p (a .place)) (w .2)
+      ∙ ap (indexOf sh (b .subframe) (b .slot) (b .phch)) (w .3)
       ∙ b .index
 
   -- every frame is the frame of labels, with each label replaced by what it names
@@ -132,7 +133,7 @@ module _ (sh : Sheet) (ok : Accepted sh) (frame : ℕ) where
       (λ x h.
       let a = index-onto sh x (omega arith) in
       ap (λ (i : ℕ). getD (frameOf f sh frame ts) i (v o)) (sym (a .index))
-      ∙ stands sh ok frame (a .slot) (a .phch) (a .place) (a .there) f ts full (v o) z
-      ∙ ap v (sym (names sh ok frame (a .slot) (a .phch) (a .place) (a .there) o))
-      ∙ sym (List·getD-map v (labelFrame sh frame) (indexOf sh (a .slot) (a .phch) (a .place)) o)
+      ∙ stands sh ok frame (a .subframe) (a .slot) (a .phch) (a .place) (a .there) f ts full (v o) z
+      ∙ ap v (sym (names sh ok frame (a .subframe) (a .slot) (a .phch) (a .place) (a .there) o))
+      ∙ sym (List·getD-map v (labelFrame sh frame) (indexOf sh (a .subframe) (a .slot) (a .phch) (a .place)) o)
       ∙ ap (λ (i : ℕ). getD (map v (labelFrame sh frame)) i (v o)) (a .index))

@@ -1,26 +1,28 @@
 -- Laws of steps 9 and 8 as the code goes back through them.
 use mathlib.Core.Path.{_≡_, refl, sym, ap, ap₂, _∙_}
-use mathlib.Core.Bool.{Bool, cond}
+use mathlib.Core.Bool.{Bool}
 use mathlib.Core.List.{List}
 use Prim.Native.Nat.{ℕ, _+_, _*_, _-_, _≤_, _<_}
+use native.Mathlib.Nat.{zero-mul, one-mul}
 use native.Mathlib.Omega.{arith}
 use borrow.Author.Tests.{eq-eqb, ne-eqb}
 use lib.ListN.{length, getD, take, drop}
 use Rattle.laws.specs.Sums.{sumTo}
-use Rattle.laws.proofs.SumLaws.{sum-more}
+use Rattle.laws.proofs.SumLaws.{sum-more, sum-within}
 use Rattle.sheet.specs.Counts.{mostSlots, mostCodes, mostCapacities, mostBits}
 use Rattle.sheet.specs.Fields.{phchsOf, capacityOf}
-use Rattle.sheet.specs.Sizes.{slotCapacity, capacityAll}
+use Rattle.sheet.specs.Sizes.{slotCapacity, placesAll, subframesOf, capacityAll}
 use Rattle.sheet.specs.Numbers.{slotLoad, wholeLoad}
 use Rattle.sheet.specs.Range.{Accepted}
 use Rattle.sheet.specs.declared.Sheet.{Sheet}
+use Rattle.sheet.proofs.SizeLaws.{one-subframe, capacity-one}
 use Rattle.interleaving.specs.Second.{comesFrom}
 use Rattle.mapping.specs.Mapping.{numberOf, filledAs, ones, at}
 use Rattle.opening.proofs.OpenLaws.{capacity-most}
-use Rattle.frame.specs.Frame.{capsOf, slotStart}
-use Rattle.frame.proofs.FrameLaws.{caps-at, caps-length, slot-room}
+use Rattle.frame.specs.Frame.{capsOf, slotStart, subframeStart}
+use Rattle.frame.proofs.FrameLaws.{runs-ones, caps-at, caps-length}
 use Rattle.naming.specs.Name.{slotBitAt, readFrom}
-use Rattle.naming.proofs.Slots.{bit-by-caps}
+use Rattle.naming.proofs.Slots.{readBy, bit-by-caps}
 
 -- step 9: the part of the capacities that is lent
 module _ (sh : Sheet) (ok : Accepted sh) (t : ℕ) (l : t < sh .slots) {phchs caps : List ℕ} (ep : phchs ≡ sh .phchs) (ec : caps ≡ sh .caps) {n : ℕ}
@@ -47,12 +49,15 @@ module _ (sh : Sheet) (ok : Accepted sh) (t : ℕ) (l : t < sh .slots) {phchs ca
     pub lent-bit : {r : ℕ} → r ≡ numberOf (at lent) ones (length lent) p (filledAs (at lent p) (p + 1) place) → r ≡ slotBitAt sh t p place
     lent-bit q =
         q
-        ∙ ap (λ (c : List ℕ). numberOf (at c) ones (length c) p (filledAs (at c p) (p + 1) place)) lent-caps
+        ∙ ap₂ (λ (B : ℕ → ℕ) (c : List ℕ). numberOf (at c) B (length c) p (filledAs (at c p) (p + 1) place)) (sym (runs-ones sh t)) lent-caps
         ∙ bit-by-caps sh ok t l p place h
 
 -- a slot lies within the frame
-pub slot-most : (sh : Sheet) → Accepted sh → (t : ℕ) → t < sh .slots → slotStart sh t + slotCapacity sh t ≤ mostBits
-slot-most sh ok t l = omega (arith, slot-room sh t l, capacity-most sh ok)
+pub slot-inside : (sh : Sheet) → Accepted sh → (t : ℕ) → t < sh .slots
+    → (slotStart sh t + slotCapacity sh t ≤ mostBits) × (slotStart sh t + slotCapacity sh t ≤ capacityAll sh)
+slot-inside sh ok t l =
+    let b = sum-within (slotCapacity sh) t (sh .slots) l in
+    (omega (arith, b, capacity-one sh, capacity-most sh ok), omega (arith, b, capacity-one sh))
 
 -- one capacity is its sum
 pub one-size : (caps : List ℕ) (from : ℕ) {n r : ℕ} → n ≡ 1 → r ≡ getD caps from 0 → r ≡ slotLoad caps from n .sum
@@ -80,19 +85,19 @@ module _ (sh : Sheet) (ok : Accepted sh) (t : ℕ) (l : t < sh .slots) {phchs ca
     pub size-is : {r : ℕ} → r ≡ slotLoad caps (mostCodes * t) n .sum → r ≡ slotCapacity sh t
     size-is q = q ∙ ap₂ (λ (c : List ℕ) (k : ℕ). slotLoad c (mostCodes * t) k .sum) ec (lent-count sh ok t l ep ec e)
 
--- step 8, by the mode
+-- step 8, by the mode, the frame having one sub-frame
 module _ (sh : Sheet) (t k : ℕ) where
-  pub read-over : {K j r : ℕ} → sh .mode ≡ 0 → K ≡ capacityAll sh → j ≡ slotStart sh t + k → r ≡ comesFrom K j → r ≡ readFrom sh t k
+  pub read-over : {K j r : ℕ} → sh .mode ≡ 0 → K ≡ capacityAll sh → j ≡ slotStart sh t + k → r ≡ comesFrom K j → r ≡ readFrom sh 0 t k
   unfolding readFrom
-  read-over z p q e =
-      e
-      ∙ ap₂ comesFrom p q
-      ∙ sym
-      (ap (λ (b : Bool). cond b (comesFrom (capacityAll sh) (slotStart sh t + k)) (slotStart sh t + comesFrom (slotCapacity sh t) k)) (eq-eqb (sh .mode) 0 z))
+  read-over {j = j} z p q e =
+      let w : j ≡ subframeStart sh 0 + (slotStart sh t + k) = omega (arith, q, zero-mul (placesAll sh)) in
+      e ∙ ap₂ comesFrom p w ∙ sym (ap (λ (b : Bool). readBy sh b 0 t k) (eq-eqb (sh .mode) 0 z))
 
-  pub read-each : {s K r : ℕ} → (sh .mode ≡ 0 → ⊥) → s ≡ slotStart sh t → K ≡ slotCapacity sh t → r ≡ comesFrom K k → s + r ≡ readFrom sh t k
+  pub read-each : {s K r : ℕ} → (sh .mode ≡ 0 → ⊥) → s ≡ slotStart sh t → K ≡ slotCapacity sh t → r ≡ comesFrom K k → s + r ≡ readFrom sh 0 t k
   unfolding readFrom
-  read-each z p q e =
-      ap₂ _+_ p (e ∙ ap (λ (n : ℕ). comesFrom n k) q)
-      ∙ sym
-      (ap (λ (b : Bool). cond b (comesFrom (capacityAll sh) (slotStart sh t + k)) (slotStart sh t + comesFrom (slotCapacity sh t) k)) (ne-eqb (sh .mode) 0 z))
+  read-each {s} {K} z p q e =
+      let one = one-subframe sh in
+      let a : s ≡ subframesOf sh * slotStart sh t = p ∙ sym (ap (λ (n : ℕ). n * slotStart sh t) one ∙ one-mul (slotStart sh t)) in
+      let c : K ≡ subframesOf sh * slotCapacity sh t = q ∙ sym (ap (λ (n : ℕ). n * slotCapacity sh t) one ∙ one-mul (slotCapacity sh t)) in
+      let j : k ≡ 0 * slotCapacity sh t + k = omega (arith, zero-mul (slotCapacity sh t)) in
+      ap₂ _+_ a (e ∙ ap₂ comesFrom c j) ∙ sym (ap (λ (b : Bool). readBy sh b 0 t k) (ne-eqb (sh .mode) 0 z))

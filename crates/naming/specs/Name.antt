@@ -1,5 +1,5 @@
--- The frame of labels, and the name of a place by direct calculation. Channels, slots, physical channels, places and bits of a name are counted
--- from 1, as in the documents, copies from 0.
+-- The frame of labels, and the name of a place by direct calculation. Channels, sub-frames, slots, physical channels, places and bits of a name are
+-- counted from 1, as in the documents, copies from 0.
 use mathlib.Core.Path.{_≡_}
 use mathlib.Core.Bool.{Bool, cond, _&&_}
 use mathlib.Core.List.{List}
@@ -10,14 +10,14 @@ use Rattle.laws.specs.Sums.{sumTo}
 use Rattle.laws.specs.Tables.{table}
 use Rattle.counters.specs.Counting.{among}
 use Rattle.sheet.specs.Fields.{ttiOf, encodedOf, phchsOf, capacityOf}
-use Rattle.sheet.specs.Sizes.{framesOf, sizeOf, equalisedOf, slotCapacity, capacityAll}
+use Rattle.sheet.specs.Sizes.{framesOf, sizeOf, equalisedOf, slotCapacity, subframesOf, capacityAll}
 use Rattle.sheet.specs.declared.Sheet.{Sheet}
 use Rattle.orders.specs.Orders.{columnAt}
 use Rattle.matching.specs.Shares.{cutOf, changeOf, channelOf}
 use Rattle.pattern.specs.Closed.{sourceOf, copyOf}
 use Rattle.interleaving.specs.Second as Second
-use Rattle.mapping.specs.Mapping.{numberOf, filledAs, ones}
-use Rattle.frame.specs.Frame.{startAt, slotStart, frameOf}
+use Rattle.mapping.specs.Mapping.{numberOf, filledAs}
+use Rattle.frame.specs.Frame.{startAt, runsOf, slotStart, subframeStart, frameOf}
 use Rattle.naming.specs.declared.PlaceName.{PlaceName}
 
 -- a bit is numbered before step 2, 1 to T_i; above E_i it is a filler
@@ -48,27 +48,28 @@ copyNamed l copy = record { channel = l .channel; bit = l .bit; copy = copy }
 unfoldable pub labelFrame : Sheet → ℕ → List Name
 labelFrame sh frame = frameOf copyNamed sh frame (labels sh)
 
--- the index of a place in the frame: slot, then PhCH, then place
-unfoldable pub indexOf : Sheet → ℕ → ℕ → ℕ → ℕ
-indexOf sh slot phch place = slotStart sh (slot - 1) + sumTo (capacityOf sh (slot - 1)) (phch - 1) + (place - 1)
+-- the index of a place in the frame: sub-frame, then slot, then PhCH, then place
+unfoldable pub indexOf : Sheet → ℕ → ℕ → ℕ → ℕ → ℕ
+indexOf sh subframe slot phch place =
+    subframeStart sh (subframe - 1) + (slotStart sh (slot - 1) + (sumTo (capacityOf sh (slot - 1)) (phch - 1) + (place - 1)))
 
--- ---- the direct calculation, backwards from step 9, for slot t and physical channel p, both from 0
+-- ---- the direct calculation, backwards from step 9, for sub-frame h, slot t and physical channel p, all from 0
 
--- step 9: the place is filled as bit x of its PhCH, upwards in an odd one and downwards in an even one; that is the slot's bit
+-- step 9: the place is filled as bit x of its PhCH, upwards in an odd one and downwards in an even one; that is the slot's bit, in runs of 1,
 -- x + (sum of min(U, x + 1) over the PhCHs before) + (sum of min(U, x) over those after)
 unfoldable pub slotBitAt : Sheet → ℕ → ℕ → ℕ → ℕ
-slotBitAt sh t p place = numberOf (capacityOf sh t) ones (phchsOf sh t) p (filledAs (capacityOf sh t p) (p + 1) place)
+slotBitAt sh t p place = numberOf (capacityOf sh t) (runsOf sh t) (phchsOf sh t) p (filledAs (capacityOf sh t p) (p + 1) place)
 
--- step 8: from where the slot's bit k is read. Mode 0: over all D bits; mode 1: within the slot
-unfoldable pub readFrom : Sheet → ℕ → ℕ → ℕ
-readFrom sh t k =
+-- step 8: from where the slot's bit k is read. Mode 0: over all D bits; mode 1: within the slot's share
+unfoldable pub readFrom : Sheet → ℕ → ℕ → ℕ → ℕ
+readFrom sh h t k =
     cond (eqb (sh .mode) 0)
-    (Second.comesFrom (capacityAll sh) (slotStart sh t + k))
-    (slotStart sh t + Second.comesFrom (slotCapacity sh t) k)
+    (Second.comesFrom (capacityAll sh) (subframeStart sh h + (slotStart sh t + k)))
+    (subframesOf sh * slotStart sh t + Second.comesFrom (subframesOf sh * slotCapacity sh t) (h * slotCapacity sh t + k))
 
 -- the index of the multiplexed frame that stands at a place
-unfoldable pub multiplexedAt : Sheet → ℕ → ℕ → ℕ → ℕ
-multiplexedAt sh slot phch place = readFrom sh (slot - 1) (slotBitAt sh (slot - 1) (phch - 1) place)
+unfoldable pub multiplexedAt : Sheet → ℕ → ℕ → ℕ → ℕ → ℕ
+multiplexedAt sh subframe slot phch place = readFrom sh (subframe - 1) (slot - 1) (slotBitAt sh (slot - 1) (phch - 1) place)
 
 -- bit m, from 0, of channel i's segment of a frame stands, before step 2, in row m of column P(n), n being the frame number mod F
 unfoldable pub bitNumber : Sheet → ℕ → ℕ → ℕ → ℕ
@@ -86,13 +87,15 @@ nameAt sh frame x =
       copy = copyOf (changeOf sh i) (sizeOf sh i) (startAt sh frame i) v;
     }
 
-unfoldable pub nameOf : Sheet → ℕ → ℕ → ℕ → ℕ → Name
-nameOf sh frame slot phch place = nameAt sh frame (multiplexedAt sh slot phch place)
+unfoldable pub nameOf : Sheet → ℕ → ℕ → ℕ → ℕ → ℕ → Name
+nameOf sh frame subframe slot phch place = nameAt sh frame (multiplexedAt sh subframe slot phch place)
 
 -- ---- what a name names
 
 -- the place exists
-pub record Exists (sh : Sheet) (slot phch place : ℕ) : Type 0 where
+pub record Exists (sh : Sheet) (subframe slot phch place : ℕ) : Type 0 where
+  pub subframe-from : 0 < subframe
+  pub subframe-to : subframe ≤ subframesOf sh
   pub slot-from : 0 < slot
   pub slot-to : slot ≤ sh .slots
   pub phch-from : 0 < phch
@@ -100,10 +103,15 @@ pub record Exists (sh : Sheet) (slot phch place : ℕ) : Type 0 where
   pub place-from : 0 < place
   pub place-to : place ≤ capacityOf sh (slot - 1) (phch - 1)
 
--- the same as a test: each of the three is one of 1 to as many as there are
-unfoldable pub hasPlace : Sheet → ℕ → ℕ → ℕ → Bool
-hasPlace sh slot phch place =
-    among slot (sh .slots) && (among phch (phchsOf sh (slot - 1)) && among place (capacityOf sh (slot - 1) (phch - 1)))
+-- the same as a test: each of the four is one of 1 to as many as there are
+unfoldable pub hasPlace : Sheet → ℕ → ℕ → ℕ → ℕ → Bool
+hasPlace sh subframe slot phch place =
+    among subframe (subframesOf sh)
+    && (among slot (sh .slots) && (among phch (phchsOf sh (slot - 1)) && among place (capacityOf sh (slot - 1) (phch - 1))))
+
+-- the sub-frame of a place that is asked for without one, since a frame has no other
+abbrev pub onlySubframe : ℕ
+onlySubframe = 1
 
 -- the name's channel and bit exist
 pub record Inside (sh : Sheet) (n : Name) : Type 0 where
@@ -123,8 +131,9 @@ bitName sh frame i m copy = record { channel = i + 1; bit = bitNumber sh frame i
 
 -- some place is named by it
 pub record NamedBy (sh : Sheet) (frame i m copy : ℕ) : Type 0 where
+  pub subframe : ℕ
   pub slot : ℕ
   pub phch : ℕ
   pub place : ℕ
-  pub there : Exists sh slot phch place
-  pub named : nameOf sh frame slot phch place ≡ bitName sh frame i m copy
+  pub there : Exists sh subframe slot phch place
+  pub named : nameOf sh frame subframe slot phch place ≡ bitName sh frame i m copy

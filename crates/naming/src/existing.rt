@@ -1,7 +1,7 @@
 // Number 10: whether a place exists.
 ghost use mathlib.Core.Path.{_≡_};
 ghost use Rattle.sheet.specs.Range.{Ranged};
-ghost use Rattle.naming.specs.Name.{hasPlace};
+ghost use Rattle.naming.specs.Name.{hasPlace, onlySubframe};
 use counters::PhchNumber;
 use counters::is_among;
 use sheet::Sheet;
@@ -19,7 +19,7 @@ pub fn exists_lent<'a>(
     place: u32,
 ) -> bool
     requires { ⌜ Ranged fields × (now phchs ≡ fields .phchs) × (now caps ≡ fields .caps) ⌝ }
-    ensures { λ r. ⌜ r ≡ hasPlace fields slot (phch .0) place ⌝ }
+    ensures { λ r. ⌜ r ≡ hasPlace fields onlySubframe slot (phch .0) place ⌝ }
 {
     if is_among(slot, fields.slots) {
         let t = (slot - 1) as usize;

@@ -5,7 +5,7 @@ ghost use Rattle.sheet.specs.Counts.{mostTti, mostEncoded};
 ghost use Rattle.sheet.specs.Sizes.{framesIn, capacityAll};
 ghost use Rattle.orders.specs.Orders.{columnAt};
 ghost use Rattle.opening.specs.Opened.{Opens};
-ghost use Rattle.naming.specs.Name.{nameAt, nameOf, nameIn, Exists};
+ghost use Rattle.naming.specs.Name.{nameAt, nameOf, nameIn, onlySubframe, Exists};
 use counters::BitNumber;
 use counters::FrameNumber;
 use counters::PhchNumber;
@@ -75,8 +75,8 @@ pub fn name_lent<'a>(
     phch: PhchNumber,
     place: u32,
 ) -> PlaceName
-    requires { ⌜ Opens opened × (now phchs ≡ opened .fields .phchs) × (now caps ≡ opened .fields .caps) × Exists (opened .fields) slot (phch .0) place ⌝ }
-    ensures { λ r. ⌜ nameIn r ≡ nameOf (opened .fields) (frame .0) slot (phch .0) place ⌝ }
+    requires { ⌜ Opens opened × (now phchs ≡ opened .fields .phchs) × (now caps ≡ opened .fields .caps) × Exists (opened .fields) onlySubframe slot (phch .0) place ⌝ }
+    ensures { λ r. ⌜ nameIn r ≡ nameOf (opened .fields) (frame .0) onlySubframe slot (phch .0) place ⌝ }
 {
     let x = placing::index_at(opened, phchs, caps, slot, phch, place);
     name_at(opened, frame, x)

@@ -9,7 +9,7 @@ ghost use Rattle.sheet.specs.Sizes.{slotCapacity, capacityAll};
 ghost use Rattle.sheet.specs.Numbers.{slotLoad, wholeLoad};
 ghost use Rattle.sheet.specs.Range.{Accepted};
 ghost use Rattle.opening.specs.Opened.{Opens};
-ghost use Rattle.naming.specs.Name.{slotBitAt, readFrom, multiplexedAt, Exists};
+ghost use Rattle.naming.specs.Name.{slotBitAt, readFrom, multiplexedAt, onlySubframe, Exists};
 use counters::PhchNumber;
 use interleaving::second::source_at;
 use mapping::bit_at;
@@ -75,7 +75,7 @@ fn read_at<'a>(
     k: u64,
 ) -> u64
     requires { ⌜ Opens opened × (now phchs ≡ opened .fields .phchs) × (now caps ≡ opened .fields .caps) × (t < opened .fields .slots) × (k < slotCapacity (opened .fields) t) ⌝ }
-    ensures { λ r. ⌜ (r ≡ readFrom (opened .fields) t k) × (r < capacityAll (opened .fields)) ⌝ }
+    ensures { λ r. ⌜ (r ≡ readFrom (opened .fields) 0 t k) × (r < capacityAll (opened .fields)) ⌝ }
 {
     let start = slot_start(phchs, caps, t);
     if opened.fields.mode == 0 {
@@ -95,8 +95,8 @@ pub fn index_at<'a>(
     phch: PhchNumber,
     place: u32,
 ) -> u64
-    requires { ⌜ Opens opened × (now phchs ≡ opened .fields .phchs) × (now caps ≡ opened .fields .caps) × Exists (opened .fields) slot (phch .0) place ⌝ }
-    ensures { λ r. ⌜ (r ≡ multiplexedAt (opened .fields) slot (phch .0) place) × (r < capacityAll (opened .fields)) ⌝ }
+    requires { ⌜ Opens opened × (now phchs ≡ opened .fields .phchs) × (now caps ≡ opened .fields .caps) × Exists (opened .fields) onlySubframe slot (phch .0) place ⌝ }
+    ensures { λ r. ⌜ (r ≡ multiplexedAt (opened .fields) onlySubframe slot (phch .0) place) × (r < capacityAll (opened .fields)) ⌝ }
 {
     let t = (slot - 1) as usize;
     let k = slot_bit(opened.fields, phchs, caps, t, phch.index(), place as usize);

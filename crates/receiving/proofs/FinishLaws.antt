@@ -22,7 +22,7 @@ use Rattle.interleaving.proofs.EqualisedLaws.{segments-hold}
 use Rattle.opening.specs.Opened.{openAnswer}
 use Rattle.opening.specs.declared.OpenAnswer.{OpenAnswer}
 use Rattle.opening.proofs.OpenLaws.{number-open, fields-open}
-use Rattle.frame.proofs.SpreadLaws.{part-length}
+use Rattle.laws.proofs.PartLaws.{part-length}
 use Rattle.homing.specs.Home.{channelStart, finishedOf}
 use Rattle.looking.specs.Looking.{noTrch, notLong}
 use Rattle.looking.specs.Outcome.{outcome}

@@ -13,7 +13,7 @@ use Rattle.laws.proofs.SumLaws.{sum-most}
 use Rattle.sheet.specs.Counts.{mostSlots, mostCodes, mostTti, longestSheet}
 use Rattle.sheet.specs.Layout.{slotWidth}
 use Rattle.sheet.specs.Fields.{phchsOf}
-use Rattle.sheet.specs.Sizes.{framesIn, segmentIn, slotCapacity, bitsNeeded, bytesNeeded}
+use Rattle.sheet.specs.Sizes.{framesIn, segmentIn, slotCapacity, placesAll, subframesOf, capacityAll, bitsNeeded, bytesNeeded}
 use Rattle.sheet.specs.Numbers.{slotLoad, wholeLoad, loadOf}
 use Rattle.sheet.specs.Range.{Ranged}
 use Rattle.sheet.specs.declared.sizes.Load.{Load}
@@ -52,6 +52,17 @@ codes-few sh n r e = (omega (arith, r .fifteen), λ t l. r .phch16 t (omega arit
 
 pub load-is : (sh : Sheet) (n : ℕ) (load : Load) → n ≡ sh .slots → load ≡ wholeLoad (sh .phchs) (sh .caps) n → load ≡ loadOf sh
 load-is sh n load e h = h ∙ ap (wholeLoad (sh .phchs) (sh .caps)) e
+
+-- a frame has one sub-frame, so that D is the sum of all capacities
+pub one-subframe : (sh : Sheet) → subframesOf sh ≡ 1
+unfolding subframesOf
+one-subframe sh = refl
+
+pub capacity-one : (sh : Sheet) → placesAll sh ≡ capacityAll sh
+capacity-one sh = sym (ap (λ (k : ℕ). k * placesAll sh) (one-subframe sh) ∙ one-mul (placesAll sh))
+
+pub load-capacity : (sh : Sheet) {load : Load} → load ≡ loadOf sh → load .sum ≡ capacityAll sh
+load-capacity sh e = ap (λ (x : Load). x .sum) e ∙ capacity-one sh
 
 pub load-sum : (sh : Sheet) (t : ℕ) {n : ℕ} {load : Load} → n ≡ phchsOf sh t → load ≡ slotLoad (sh .caps) (mostCodes * t) n → load .sum ≡ slotCapacity sh t
 load-sum sh t e h = ap (λ (x : Load). x .sum) (h ∙ ap (slotLoad (sh .caps) (mostCodes * t)) e)

@@ -9,7 +9,7 @@ use Rattle.counters.specs.Lines.{Line, line, firstOf, given}
 use Rattle.bits.specs.Bits.{bitsAt}
 use Rattle.sheet.specs.Counts.{mostCodes, mostBits}
 use Rattle.sheet.specs.Fields.{headIn, sheetOf, blank, encodedOf, phchsOf, capacityOf}
-use Rattle.sheet.specs.Sizes.{equalisedAll, capacityAll, bitsNeeded, bytesNeeded}
+use Rattle.sheet.specs.Sizes.{equalisedAll, placesAll, capacityAll, bitsNeeded, bytesNeeded}
 use Rattle.sheet.specs.declared.sizes.Load.{Load}
 use Rattle.sheet.specs.declared.Sheet.{Sheet}
 use Rattle.sheet.specs.declared.SheetAnswer.{SheetAnswer}
@@ -36,9 +36,9 @@ wholeLoad phchs caps n =
       sum = sumTo (λ t. slotLoad caps (mostCodes * t) (getD phchs t 0) .sum) n;
     }
 
--- what the capacities of a sheet come to: the lines 5 and 7 look at it
+-- what the capacities of a sheet come to: the lines 5 and 7 need it
 abbrev pub loadOf : Sheet → Load
-loadOf sh = record { empty = emptyPlace sh; sum = capacityAll sh }
+loadOf sh = record { empty = emptyPlace sh; sum = placesAll sh }
 
 -- 8: every E is 0
 abbrev pub silent : Sheet → Bool

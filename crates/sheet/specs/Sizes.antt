@@ -1,4 +1,4 @@
--- The sizes that a sheet's fields give: N, T_i, their sum, the sum of E, D, and the sheet's own length.
+-- The sizes that a sheet's fields give: N, T_i, their sum, the sum of E, the sub-frames, D, and the sheet's own length.
 use mathlib.Core.Bool.{cond}
 use Prim.Native.Nat.{ℕ, _+_, _-_, _*_, _/_, _^_}
 use lib.Dec.{eqb}
@@ -32,12 +32,19 @@ encodedAll sh = sumTo (encodedOf sh) (sh .channels)
 abbrev pub equalisedAll : Sheet → ℕ
 equalisedAll sh = sumTo (equalisedOf sh) (sh .channels)
 
--- the capacity of slot t, and D, the sum of all capacities
+-- the capacity of slot t, and the sum of all capacities, which is the places of a sub-frame
 abbrev pub slotCapacity : Sheet → ℕ → ℕ
 slotCapacity sh t = sumTo (capacityOf sh t) (phchsOf sh t)
 
+abbrev pub placesAll : Sheet → ℕ
+placesAll sh = sumTo (slotCapacity sh) (sh .slots)
+
+-- the sub-frames of a frame, each with all of the sheet's slots; and D, the places of the frame
+unfoldable pub subframesOf : Sheet → ℕ
+subframesOf sh = 1
+
 abbrev pub capacityAll : Sheet → ℕ
-capacityAll sh = sumTo (slotCapacity sh) (sh .slots)
+capacityAll sh = subframesOf sh * placesAll sh
 
 -- the bit at which slot t begins, and the bits and the bytes that the fields need
 abbrev pub slotAt : Sheet → ℕ → ℕ

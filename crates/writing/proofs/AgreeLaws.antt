@@ -1,5 +1,5 @@
 -- Sheets that agree in every field within their counts need the same bytes and have the same numbers from 5 on.
-use mathlib.Core.Path.{_≡_, refl, ap, ap₂, _∙_}
+use mathlib.Core.Path.{_≡_, refl, sym, ap, ap₂, _∙_}
 use mathlib.Core.Bool.{not}
 use Prim.Native.Nat.{ℕ, _+_, _*_, _/_, _%_, _<_}
 use native.Mathlib.Omega.{arith}
@@ -12,9 +12,10 @@ use Rattle.laws.proofs.SumLaws.{sum-same, any-same}
 use Rattle.sheet.specs.Counts.{mostChannels, mostSlots, mostCodes, mostCapacities}
 use Rattle.sheet.specs.Layout.{channelAt, slotWidth}
 use Rattle.sheet.specs.Fields.{ttiOf, encodedOf, phchsOf, capacityOf}
-use Rattle.sheet.specs.Sizes.{framesIn, segmentIn, equalisedOf, equalisedAll, slotCapacity, capacityAll, bitsNeeded}
+use Rattle.sheet.specs.Sizes.{framesIn, segmentIn, equalisedOf, equalisedAll, slotCapacity, placesAll, capacityAll, bitsNeeded}
 use Rattle.sheet.specs.Numbers.{emptyPlace, silent, loadLines}
 use Rattle.sheet.proofs.NumberLaws.{emptySlot}
+use Rattle.sheet.proofs.SizeLaws.{one-subframe}
 use Rattle.sheet.specs.Range.{Ranged}
 use Rattle.sheet.specs.declared.Sheet.{Sheet}
 use Rattle.writing.specs.Written.{trimmed}
@@ -40,11 +41,14 @@ module _ (a b : Sheet) (g : Agree a b) where
       ∙ sum-same (equalisedOf a) (equalisedOf b) (b .channels)
       (λ i l. ap₂ (λ (t e : ℕ). framesIn t * segmentIn e (framesIn t)) (g .tti i l) (g .encoded i l))
 
-  agree-capacity : capacityAll a ≡ capacityAll b
-  agree-capacity =
+  agree-places : placesAll a ≡ placesAll b
+  agree-places =
       ap (sumTo (slotCapacity a)) (g .slots)
       ∙ sum-same (slotCapacity a) (slotCapacity b) (b .slots)
       (λ t l. ap (sumTo (capacityOf a t)) (g .phchs t l) ∙ sum-same (capacityOf a t) (capacityOf b t) (phchsOf b t) (λ p k. g .caps t p l k))
+
+  agree-capacity : capacityAll a ≡ capacityAll b
+  agree-capacity = ap₂ _*_ (one-subframe a ∙ sym (one-subframe b)) agree-places
 
   agree-empty : emptyPlace a ≡ emptyPlace b
   agree-empty =

@@ -3,7 +3,7 @@ use mathlib.Core.Path.{_≡_, refl, ap, _∙_}
 use lib.ListN.{length, replicate}
 use Rattle.laws.specs.Sums.{sumTo, anyTo}
 use Rattle.sheet.specs.Counts.{mostChannels, mostSlots, mostCodes, mostCapacities, longestSheet}
-use Rattle.sheet.specs.Sizes.{bytesNeeded}
+use Rattle.sheet.specs.Sizes.{bytesNeeded, subframesOf}
 use Rattle.sheet.specs.Numbers.{readNumber}
 use Rattle.sheet.specs.declared.Sheet.{Sheet}
 use Rattle.sheet.specs.declared.SheetAnswer.{SheetAnswer}
@@ -27,7 +27,7 @@ full =
     }
 
 pub full-sound : fieldNumber full ≡ 0
-unfolding full sumTo anyTo
+unfolding full sumTo anyTo subframesOf
 full-sound = refl
 
 full-need : bytesNeeded full ≡ longestSheet

@@ -1,9 +1,8 @@
-use mathlib.Core.Path.{_≡_, sym, ap, subst}
+use mathlib.Core.Path.{_≡_, sym, subst}
 use Rattle.sheet.specs.Numbers.{loadOf}
 use Rattle.sheet.specs.Range.{Ranged}
-use Rattle.sheet.specs.declared.sizes.Load.{Load}
 use Rattle.sheet.proofs.FieldLaws.{ranged-in}
-use Rattle.sheet.proofs.SizeLaws.{codes-few, load-is}
+use Rattle.sheet.proofs.SizeLaws.{codes-few, load-is, load-capacity}
 use Rattle.opening.proofs.OpenLaws.{accepted-read, opened-yes, opened-no}
 use borrow.Author.Needs.{needs}
 use Rattle.opening.proofs.open_sheet.Statement.{statement}
@@ -31,7 +30,7 @@ open-fields-requires : tie.Need-open-fields-requires
 open-fields-requires c κs = (
   accepted-read (c .before .before .before .before .before .before .before .before .before .args .bytes .now) _ (c .before .read-number .ensures) (c .before .before .before .before .before .before .before .read-fields .result) (c .before .before .before .before .before .before .before .read-fields .ensures)
       (c .if1 .taken),
-  ap (λ (x : Load). x .sum) (load (c .before .before)),
+  load-capacity _ (load (c .before .before)),
 )
 
 returns : tie.Need-returns

@@ -5,6 +5,7 @@ use lib.Dec.{ltb}
 use Rattle.counters.specs.Lines.{line}
 use Rattle.opening.specs.Opened.{Opens}
 use Rattle.opening.specs.declared.OpenAnswer.{OpenAnswer}
+use Rattle.naming.specs.Name.{onlySubframe}
 use Rattle.naming.proofs.ExistLaws.{exists}
 use Rattle.looking.specs.Looking.{lastFrame, frameLines, Begun}
 use Rattle.looking.proofs.LookLaws.{begun-no, begun-late, begun-yes, begun-opens}
@@ -74,7 +75,7 @@ name-lent-requires c κs =
       opens k,
       refl,
       refl,
-      exists (answer k .opened .fields) (a .slot) (a .phch .0) (a .place) .0 (sym (t .before .exists-lent .ensures) ∙ t .if3 .taken),
+      exists (answer k .opened .fields) onlySubframe (a .slot) (a .phch .0) (a .place) .0 (sym (t .before .exists-lent .ensures) ∙ t .if3 .taken),
     )
 
 returns-3 : tie.Need-returns-3

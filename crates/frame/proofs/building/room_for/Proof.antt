@@ -2,8 +2,8 @@ use native.Mathlib.Omega.{arith}
 use mathlib.Core.Path.{_≡_, subst}
 use Prim.Native.Nat.{ℕ, _-_, _≤_}
 use Rattle.sheet.specs.Counts.{mostChannels}
-use Rattle.frame.specs.Above.{NoneAbove}
-use Rattle.frame.proofs.AboveLaws.{above-next}
+use Rattle.laws.specs.Above.{NoneAbove}
+use Rattle.laws.proofs.AboveLaws.{above-next}
 use Rattle.frame.proofs.RoomLaws.{room-above}
 use borrow.Author.Needs.{needs}
 use Rattle.frame.proofs.building.room_for.Statement.{statement}

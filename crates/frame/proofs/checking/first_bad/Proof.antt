@@ -1,5 +1,5 @@
 use native.Mathlib.Omega.{arith}
-use Rattle.frame.proofs.AboveLaws.{all-bits}
+use Rattle.frame.proofs.BitLaws.{all-bits}
 use borrow.Author.Needs.{needs}
 use Rattle.frame.proofs.checking.first_bad.Statement.{statement}
 use Rattle.frame.proofs.checking.first_bad.Tie as tie

@@ -3,8 +3,8 @@ use mathlib.Core.Path.{_≡_, subst}
 use Prim.Native.Nat.{ℕ, _-_, _≤_}
 use lib.ListN.{length}
 use borrow.Author.Needs.{needs}
-use Rattle.frame.specs.Above.{NoneAbove}
-use Rattle.frame.proofs.AboveLaws.{above-next}
+use Rattle.laws.specs.Above.{NoneAbove}
+use Rattle.laws.proofs.AboveLaws.{above-next}
 use Rattle.frame.proofs.checking.most.Statement.{statement}
 use Rattle.frame.proofs.checking.most.Tie as tie
 

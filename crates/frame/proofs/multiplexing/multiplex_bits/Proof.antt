@@ -19,9 +19,9 @@ use Rattle.opening.proofs.OpenLaws.{size-is, high-is, cut-rises}
 use Rattle.interleaving.specs.First.{equalised}
 use Rattle.pattern.specs.Pattern.{asIs}
 use Rattle.frame.specs.Frame.{sentOf, bitsOf, multiplexed, multiplexedBits}
-use Rattle.frame.proofs.SpreadLaws.{part-length}
+use Rattle.laws.proofs.PartLaws.{part-length, prefix-long}
 use Rattle.frame.proofs.FrameLaws.{cuts-end}
-use Rattle.frame.proofs.SendLaws.{content-within, content-part, cut-share, cut-within, sent-more, prefix-long, sent-none}
+use Rattle.frame.proofs.SendLaws.{content-within, content-part, cut-share, cut-within, sent-more, sent-none}
 use Rattle.frame.proofs.multiplexing.multiplex_bits.Statement.{statement}
 use Rattle.frame.proofs.multiplexing.multiplex_bits.Tie as tie
 

@@ -8,7 +8,7 @@ use Rattle.sheet.specs.Sizes.{sizeOf, equalisedOf}
 use Rattle.opening.specs.Opened.{Opens}
 use Rattle.opening.specs.declared.Opened.{Opened}
 use Rattle.opening.proofs.OpenLaws.{size-is, sizes-most, cut-rises}
-use Rattle.frame.proofs.SpreadLaws.{part-length}
+use Rattle.laws.proofs.PartLaws.{part-length}
 use Rattle.frame.proofs.SendLaws.{cut-share, cut-within}
 use Rattle.homing.specs.Home.{channelStart}
 use Rattle.homing.specs.Taking.{homeIn, takenFrom}

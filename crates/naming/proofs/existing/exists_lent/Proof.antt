@@ -8,7 +8,8 @@ use Rattle.counters.specs.Counting.{among}
 use Rattle.counters.proofs.CountLaws.{among-true}
 use Rattle.sheet.specs.Counts.{mostCodes}
 use Rattle.sheet.specs.Fields.{phchsOf}
-use Rattle.naming.proofs.ExistLaws.{asked-all, asked-phch, asked-slot}
+use Rattle.naming.specs.Name.{onlySubframe}
+use Rattle.naming.proofs.ExistLaws.{first-subframe, asked-all, asked-phch, asked-slot}
 use borrow.Author.Needs.{needs}
 use Rattle.naming.proofs.existing.exists_lent.Statement.{statement}
 use Rattle.naming.proofs.existing.exists_lent.Tie as tie
@@ -90,18 +91,18 @@ returns c =
     let a = t .before .before .args in
     c .is-among3 .ensures
     ∙ ap₂ (λ (l : List ℕ) (p : ℕ). among (a .place) (getD l (mostCodes * (a .slot - 1) + p) 0)) (t .before .before .pre .2) (i .index .ensures)
-    ∙ asked-all (a .fields) (a .slot) (a .phch .0) (a .place) (slot-asked t) (phch-asked (i .before))
+    ∙ asked-all (a .fields) onlySubframe (a .slot) (a .phch .0) (a .place) (first-subframe (a .fields)) (slot-asked t) (phch-asked (i .before))
 
 returns-2 : tie.Need-returns-2
 returns-2 c =
     let t = c .before .before .before in
     let a = t .before .before .args in
-    asked-phch (a .fields) (a .slot) (a .phch .0) (a .place) (slot-asked t) (sym (phch-answer (c .before)) ∙ c .if2 .left)
+    asked-phch (a .fields) onlySubframe (a .slot) (a .phch .0) (a .place) (first-subframe (a .fields)) (slot-asked t) (sym (phch-answer (c .before)) ∙ c .if2 .left)
 
 returns-3 : tie.Need-returns-3
 returns-3 c =
     let a = c .before .before .args in
-    asked-slot (a .fields) (a .slot) (a .phch .0) (a .place) (sym (c .before .is-among .ensures) ∙ c .if1 .left)
+    asked-slot (a .fields) onlySubframe (a .slot) (a .phch .0) (a .place) (first-subframe (a .fields)) (sym (c .before .is-among .ensures) ∙ c .if1 .left)
 
 pub exists-lent-spec : {M : Type 1} → statement M
 exists-lent-spec =

@@ -4,14 +4,14 @@ use Prim.Native.Nat.{ℕ, _+_, _≤_, _<_}
 use lib.ListN.{getD}
 use Rattle.sheet.specs.Counts.{mostBits}
 use Rattle.sheet.specs.Sizes.{slotCapacity, capacityAll}
+use Rattle.sheet.proofs.SizeLaws.{one-subframe}
 use Rattle.opening.specs.Opened.{Opens}
 use Rattle.opening.specs.declared.Opened.{Opened}
 use Rattle.opening.proofs.OpenLaws.{capacity-most, last-is}
 use Rattle.frame.specs.Frame.{slotStart}
-use Rattle.frame.proofs.FrameLaws.{slot-room}
 use Rattle.naming.specs.Name.{readFrom}
 use Rattle.naming.proofs.Slots.{read-below}
-use Rattle.naming.proofs.PlacingLaws.{slot-most, start-asks, start-is, size-asks, size-is, read-over, read-each}
+use Rattle.naming.proofs.PlacingLaws.{slot-inside, start-asks, start-is, size-asks, size-is, read-over, read-each}
 use borrow.Author.Needs.{needs}
 use Rattle.naming.proofs.placing.read_at.Statement.{statement}
 use Rattle.naming.proofs.placing.read_at.Tie as tie
@@ -20,9 +20,12 @@ use Rattle.naming.proofs.placing.read_at.Tie as tie
 within : (s : tie.Start)
     → (slotStart (s .args .opened .fields) (s .args .t) + slotCapacity (s .args .opened .fields) (s .args .t) ≤ mostBits)
     × (slotStart (s .args .opened .fields) (s .args .t) + slotCapacity (s .args .opened .fields) (s .args .t) ≤ capacityAll (s .args .opened .fields))
-within s =
+within s = slot-inside (s .args .opened .fields) (s .pre .0 .accepted) (s .args .t) (s .pre .3)
+
+below : (s : tie.Start) → readFrom (s .args .opened .fields) 0 (s .args .t) (s .args .k) < capacityAll (s .args .opened .fields)
+below s =
     let f = s .args .opened .fields in
-    (slot-most f (s .pre .0 .accepted) (s .args .t) (s .pre .3), slot-room f (s .args .t) (s .pre .3))
+    read-below f 0 (s .args .t) (s .args .k) (omega (arith, one-subframe f)) (s .pre .3) (s .pre .4)
 
 begun : (c : tie.After-slot-start) → c .slot-start .result ≡ slotStart (c .before .args .opened .fields) (c .before .args .t)
 begun c =
@@ -44,7 +47,7 @@ all o h e = ap (λ (i : ℕ). getD (o .cuts) i 0) e ∙ last-is o h
 each : (c : tie.After-source-at2)
     → (let s = c .before .before .before .before .before .before .before in
     let r = c .before .before .before .before .before .before .slot-start .result + c .source-at2 .result in
-    (r ≡ readFrom (s .args .opened .fields) (s .args .t) (s .args .k)) × (r < capacityAll (s .args .opened .fields)))
+    (r ≡ readFrom (s .args .opened .fields) 0 (s .args .t) (s .args .k)) × (r < capacityAll (s .args .opened .fields)))
 each c =
     let u = c .before in
     let b = u .before .before .before in
@@ -52,7 +55,7 @@ each c =
     let s = i .before in
     let f = s .args .opened .fields in
     let e = read-each f (s .args .t) (s .args .k) (b .if1 .left) (begun i) (sized u) (c .source-at2 .ensures .0) in
-    (e, omega (arith, e, read-below f (s .args .t) (s .args .k) (s .pre .3) (s .pre .4)))
+    (e, omega (arith, e, below s))
 
 slot-start-requires : tie.Need-slot-start-requires
 slot-start-requires c κs = start-asks (c .args .opened .fields) (c .pre .0 .accepted) (c .args .t) (c .pre .3) (c .pre .1) (c .pre .2)
@@ -86,7 +89,7 @@ returns c =
     let e =
     read-over f (s .args .t) (s .args .k) (b .if1 .taken) (all (s .args .opened) (s .pre .0) (n .count .ensures .0))
     (ap (λ (x : ℕ). x + s .args .k) (begun i)) (c .source-at .ensures .0) in
-    (e, omega (arith, e, read-below f (s .args .t) (s .args .k) (s .pre .3) (s .pre .4)))
+    (e, omega (arith, e, below s))
 
 mul-slot-size : tie.Need-mul-slot-size
 mul-slot-size c = search needs

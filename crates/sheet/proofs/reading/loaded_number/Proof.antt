@@ -8,6 +8,7 @@ use Rattle.sheet.specs.Counts.{mostBits}
 use Rattle.sheet.specs.Sizes.{equalisedAll, capacityAll}
 use Rattle.sheet.specs.Numbers.{emptyPlace}
 use Rattle.sheet.specs.declared.sizes.Load.{Load}
+use Rattle.sheet.proofs.SizeLaws.{load-capacity}
 use borrow.Author.Needs.{needs}
 use Rattle.sheet.proofs.reading.loaded_number.Statement.{statement}
 use Rattle.sheet.proofs.reading.loaded_number.Tie as tie
@@ -24,7 +25,7 @@ empty-is : (c : tie.Start) → c .args .load .empty ≡ emptyPlace (c .args .fie
 empty-is c = ap (λ (x : Load). x .empty) (c .pre .1)
 
 sum-is : (c : tie.Start) → c .args .load .sum ≡ capacityAll (c .args .fields)
-sum-is c = ap (λ (x : Load). x .sum) (c .pre .1)
+sum-is c = load-capacity (c .args .fields) (c .pre .1)
 
 -- what each test that was passed says of its line
 places : (c : tie.Else1) → emptyPlace (c .before .args .fields) ≡ false
