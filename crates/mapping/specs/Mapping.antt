@@ -103,11 +103,12 @@ at caps p = getD caps p 0
 abbrev pub slotSize : List ℕ → ℕ
 slotSize caps = sumTo (at caps) (length caps)
 
-abbrev pub slotOf : {A : Type 0} → List ℕ → List A → List A → List A
-slotOf caps bits w = mapped (at caps) ones (length caps) bits w
+-- B says in what runs each PhCH takes its bits
+abbrev pub slotOf : {A : Type 0} → (ℕ → ℕ) → List ℕ → List A → List A → List A
+slotOf B caps bits w = mapped (at caps) B (length caps) bits w
 
-abbrev pub slotUndone : {A : Type 0} → List ℕ → A → List A → List A
-slotUndone caps d w = unmapped (at caps) ones (length caps) d w
+abbrev pub slotUndone : {A : Type 0} → (ℕ → ℕ) → List ℕ → A → List A → List A
+slotUndone B caps d w = unmapped (at caps) B (length caps) d w
 
 -- as many bits, n, and as many places, m, as the capacities add up to
 pub record Slot (caps : List ℕ) (n m : ℕ) : Type 0 where

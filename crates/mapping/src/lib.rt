@@ -158,7 +158,7 @@ fn empty(
 // Maps the bits of a slot, one at a time to each PhCH that has room. The frame is the slot's part of it.
 pub fn map_slot(bits: &[u8], caps: &[u16], frame: &mut [u8])
     requires { ⌜ Slot (now caps) (length (now bits)) (length (now frame)) ⌝ }
-    ensures { λ _. ⌜ now (frame .exit) ≡ slotOf (now (caps .entry)) (now (bits .entry)) (now (frame .entry)) ⌝ }
+    ensures { λ _. ⌜ now (frame .exit) ≡ slotOf ones (now (caps .entry)) (now (bits .entry)) (now (frame .entry)) ⌝ }
 {
     let low = least(caps);
     let mut p: usize = 0;
@@ -176,7 +176,7 @@ pub fn map_slot(bits: &[u8], caps: &[u16], frame: &mut [u8])
 // Takes the soft values of a slot back into the order of its bits.
 pub fn unmap_slot(frame: &[f32], caps: &[u16], bits: &mut [f32])
     requires { ⌜ Slot (now caps) (length (now bits)) (length (now frame)) ⌝ }
-    ensures { λ _. ⌜ now (bits .exit) ≡ slotUndone (now (caps .entry)) nan (now (frame .entry)) ⌝ }
+    ensures { λ _. ⌜ now (bits .exit) ≡ slotUndone ones (now (caps .entry)) nan (now (frame .entry)) ⌝ }
 {
     let low = least(caps);
     let mut p: usize = 0;
