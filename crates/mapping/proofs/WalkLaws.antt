@@ -9,7 +9,7 @@ use Rattle.laws.proofs.SumLaws.{sum-more, sum-within}
 use Rattle.mapping.specs.declared.Mark.{Mark}
 use Rattle.mapping.specs.declared.Stretch.{Stretch}
 use Rattle.mapping.specs.Mapping.{posOf, place, ones, at, slotSize, slotOf, slotUndone, Slot}
-use Rattle.mapping.specs.Strides.{walk, Least, Marked, Leg, Onward, Done, Standing, Along}
+use Rattle.mapping.specs.Strides.{walk, Steps, Least, Marked, Leg, Onward, Done, Standing, Along}
 use Rattle.mapping.proofs.StrideLaws.{walk-fits, walk-start, walk-next, walk-number, walk-inside}
 use Rattle.mapping.proofs.DoneLaws.{done-start, done-put, done-take, done-slot, done-bits}
 
@@ -19,6 +19,10 @@ unfolding sumTo
 walk-starts caps low s l =
     let z = walk-start (at caps) (length caps) in
     record { small = s; least = l; inside = omega arith; begins = refl; number = sym z; part = omega arith; bit = λ h. sym z }
+
+pub leg-of : {caps : List ℕ} {m : Mark} {u s e : ℕ} → Marked caps m × (m .p < length caps) → u ≡ at caps (m .p)
+    → Steps (at caps) (length caps) (m .p) (m .x) s e → Leg caps m (record { room = u; stride = s; end = e })
+leg-of h e s = record { mark = h .0; inside = h .1; room = e; steps = s }
 
 module _ {caps : List ℕ} {m : Mark} {r : Stretch} (g : Leg caps m r) where
   within : m .base + r .room ≤ slotSize caps

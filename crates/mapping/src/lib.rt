@@ -89,6 +89,14 @@ fn start(caps: &[u16]) -> Mark
     }
 }
 
+// How long a PhCH that takes v and has had `had` turns by bit x of another keeps its room, as a bit of that one, and `end` at most.
+fn until(end: usize, v: usize, had: usize, x: usize) -> usize
+    requires { ⌜ (x ≤ had) × (had < v) ⌝ }
+    ensures { λ r. ⌜ r ≡ min end (v - (had - x)) ⌝ }
+{
+    lesser(end, v - (had - x))
+}
+
 // The stretch of PhCH p, which has u places, from its bit x on, by asking each PhCH whether it has room, and for how long.
 fn reach(caps: &[u16], p: usize, u: usize, x: usize) -> Stretch
     requires { ⌜ (u ≡ at (now caps) p) × (u < 65536) × (x < u) ⌝ }
@@ -102,7 +110,7 @@ fn reach(caps: &[u16], p: usize, u: usize, x: usize) -> Stretch
         let had = turns_had(p, x, q);
         if had < v {
             stride += 1;
-            end = lesser(end, v - (had - x));
+            end = until(end, v, had, x);
             q += 1;
         } else {
             q += 1;
