@@ -17,16 +17,16 @@ use Rattle.interleaving.specs.Second.{secondInterleaved, readBefore, goe
 use Rattle.interleaving.specs.Descent.{Turned, Down, Woven, Unwoven}
 use Rattle.interleaving.proofs.SecondLaws.{read-suc, read-all, place-row, place-below, place-once, turn-passes, second-length, second-place}
 
-pub turned-starts : (K : ℕ) → Turned K 0 0
+pub turned-down : {K t k i : ℕ} → Turned K t k → t < 30 → i ≡ getD order t 0 → Down K t k i
+turned-down {K} {t} w h q =
+    record { turn = h; from = omega (arith, w .index); to = omega (arith, w .index, read-suc K t); index = omega (arith, w .index) }
+
+turned-starts : (K : ℕ) → Turned K 0 0
 unfolding sumTo
 turned-starts K = record { turn = omega arith; index = refl }
 
-module _ {K t k : ℕ} (w : Turned K t k) where
-  pub turned-down : {i : ℕ} → t < 30 → i ≡ getD order t 0 → Down K t k i
-  turned-down h q = record { turn = h; from = omega (arith, w .index); to = omega (arith, w .index, read-suc K t); index = omega (arith, w .index) }
-
-  pub turned-all : 30 ≤ t → k ≡ K
-  turned-all h = let e : t ≡ 30 = omega (arith, w .turn) in w .index ∙ ap (readBefore K) e ∙ read-all K
+turned-all : {K t k : ℕ} → Turned K t k → 30 ≤ t → k ≡ K
+turned-all {K} {t} w h = let e : t ≡ 30 = omega (arith, w .turn) in w .index ∙ ap (readBefore K) e ∙ read-all K
 
 module _ {K t k i : ℕ} (r : Down K t k i) where
   pub down-ends : K ≤ i → Turned K (t + 1) k
@@ -36,7 +36,7 @@ module _ {K t k i : ℕ} (r : Down K t k i) where
   }
 
   module _ (h : i < K) where
-    pub down-next : Down K t (k + 1) (i + 30)
+    down-next : Down K t (k + 1) (i + 30)
     down-next =
         record {
           turn = r .turn;
@@ -92,36 +92,32 @@ module _ {K j t c h left : ℕ} (p : Passing K j t c h left) where
 
 -- step 8: index k is written
 module _ {A : Type 0} {z : A} {src dst : List A} where
-  pub woven-starts : length dst ≡ length src → Woven z src dst 0
-  woven-starts h = record { filling = filling-starts dst h }
+  pub woven-starts : length dst ≡ length src → Woven z src dst 0 × Turned (length src) 0 0
+  woven-starts h = (record { filling = filling-starts dst h }, turned-starts (length src))
 
-  module _ {k : ℕ} (f : Woven z src dst k) where
-    pub weave : {t i : ℕ} → Down (length src) t k i → i < length src → Woven z src (set dst k (getD src i z)) (k + 1)
-    weave {i = i} r h = record {
-      filling =
-          filling-next (f .filling) (getD src i z) (down-below r h)
-          (sym (second-place src i z h) ∙ ap (λ (j : ℕ). getD (secondInterleaved src) j z) (down-place r h));
-    }
+  pub weave : {t k i : ℕ} → Woven z src dst k × Down (length src) t k i → i < length src
+      → Woven z src (set dst k (getD src i z)) (k + 1) × Down (length src) t (k + 1) (i + 30)
+  weave {i = i} w h =
+      let e = sym (second-place src i z h) ∙ ap (λ (j : ℕ). getD (secondInterleaved src) j z) (down-place (w .1) h) in
+      (record { filling = filling-next (w .0 .filling) (getD src i z) (down-below (w .1) h) e }, down-next (w .1) h)
 
-    pub woven-all : k ≡ length src → dst ≡ secondInterleaved src
-    woven-all e =
-        filling-ends (f .filling) (λ j l. omega arith)
-        ∙ sym (tabled (λ j. getD (secondInterleaved src) j z) (secondInterleaved src) (length src) z (second-length src) (λ j l. refl))
+  pub woven-ends : {t k : ℕ} → Woven z src dst k × Turned (length src) t k → 30 ≤ t → dst ≡ secondInterleaved src
+  woven-ends w h =
+      filling-ends (w .0 .filling) (λ j l. omega (arith, turned-all (w .1) h))
+      ∙ sym (tabled (λ j. getD (secondInterleaved src) j z) (secondInterleaved src) (length src) z (second-length src) (λ j l. refl))
 
   -- undone: element i is written
-  pub unwoven-starts : length dst ≡ length src → Unwoven z src dst 0
-  unwoven-starts h = record { filling = filling-starts dst h }
+  pub unwoven-starts : length dst ≡ length src → Unwoven z src dst 0 × Turned (length src) 0 0
+  unwoven-starts h = (record { filling = filling-starts dst h }, turned-starts (length src))
 
-  module _ {k : ℕ} (f : Unwoven z src dst k) where
-    pub unweave : {t i : ℕ} → Down (length src) t k i → i < length src → Unwoven z src (set dst i (getD src k z)) (k + 1)
-    unweave {i = i} r h =
-        let e = down-place r h in
-        record {
-          filling =
-              filling-put (f .filling) i (getD src k z) h (λ j l q. place-once (length src) j i l h (q ∙ sym e))
-              (ap (λ (j : ℕ). getD src j z) (sym e)) e;
-        }
+  pub unweave : {t k i : ℕ} → Unwoven z src dst k × Down (length src) t k i → i < length src
+      → Unwoven z src (set dst i (getD src k z)) (k + 1) × Down (length src) t (k + 1) (i + 30)
+  unweave {k = k} {i = i} w h =
+      let e = down-place (w .1) h in
+      let q : getD src k z ≡ getD src (goesTo (length src) i) z = ap (λ (j : ℕ). getD src j z) (sym e) in
+      let f = filling-put (w .0 .filling) i (getD src k z) h (λ j l v. place-once (length src) j i l h (v ∙ sym e)) q e in
+      (record { filling = f }, down-next (w .1) h)
 
-    pub unwoven-all : k ≡ length src → dst ≡ secondUndone z src
-    unfolding secondUndone
-    unwoven-all e = filling-ends (f .filling) (λ j l. omega (arith, place-below (length src) j l))
+  pub unwoven-ends : {t k : ℕ} → Unwoven z src dst k × Turned (length src) t k → 30 ≤ t → dst ≡ secondUndone z src
+  unfolding secondUndone
+  unwoven-ends w h = filling-ends (w .0 .filling) (λ j l. omega (arith, turned-all (w .1) h, place-below (length src) j l))

@@ -53,7 +53,7 @@ fn write_column(src: &[f32], t: usize, column: usize, index: usize, dst: &mut [f
 {
     let mut to = column;
     let mut k = index;
-    while to < dst.len() {
+    while to < src.len() {
         dst[to] = src[k];
         k += 1;
         to += 30;

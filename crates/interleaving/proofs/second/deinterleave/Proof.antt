@@ -5,7 +5,7 @@ use Prim.Native.Nat.{_-_}
 use lib.ListN.{length}
 use lib.Ieee.{nan}
 use Rattle.interleaving.specs.Descent.{Turned, Unwoven}
-use Rattle.interleaving.proofs.SecondWalk.{turned-starts, turned-down, turned-all, unwoven-starts, unwoven-all}
+use Rattle.interleaving.proofs.SecondWalk.{turned-down, unwoven-starts, unwoven-ends}
 use Rattle.interleaving.proofs.second.deinterleave.Statement.{statement}
 use Rattle.interleaving.proofs.second.deinterleave.Tie as tie
 
@@ -19,15 +19,13 @@ columns-requires : tie.Need-columns-requires Inv-loop μ-loop
 columns-requires c κs = search needs
 
 loop-holds : tie.Need-loop-holds Inv-loop μ-loop
-loop-holds c = (unwoven-starts (c .before .before .before .pre), turned-starts _)
+loop-holds c = unwoven-starts (c .before .before .before .pre)
 
 column-at-requires : tie.Need-column-at-requires Inv-loop μ-loop
 column-at-requires c κs = (c .before .before .before .columns .ensures, omega arith)
 
 write-column-requires : tie.Need-write-column-requires Inv-loop μ-loop
-write-column-requires c κs =
-    let i = c .before .before .before .before .loop .inv in
-    (i .0, turned-down (i .1) (omega arith) (c .before .column-at .ensures .0))
+write-column-requires c κs = let i = c .before .before .before .before .loop .inv in (i .0, turned-down (i .1) (omega arith) (c .before .column-at .ensures .0))
 
 add-t : tie.Need-add-t Inv-loop μ-loop
 add-t c = omega arith
@@ -42,7 +40,7 @@ same-length : tie.Need-same-length Inv-loop μ-loop
 same-length c = c .before .loop .inv .0 .filling .long ∙ sym (c .before .before .before .before .before .pre)
 
 returns : tie.Need-returns Inv-loop μ-loop
-returns c = let i = c .before .loop .inv in unwoven-all (i .0) (turned-all (i .1) (omega arith))
+returns c = unwoven-ends (c .before .loop .inv) (omega arith)
 
 pub deinterleave-spec : {M : Type 1} → statement M
 deinterleave-spec =

@@ -3,7 +3,7 @@ use mathlib.Core.Path.{sym, _∙_}
 use Prim.Native.Nat.{_-_}
 use lib.ListN.{length}
 use Rattle.interleaving.specs.Descent.{Down, Woven}
-use Rattle.interleaving.proofs.SecondWalk.{down-next, down-ends, down-below, weave}
+use Rattle.interleaving.proofs.SecondWalk.{down-ends, down-below, weave}
 use Rattle.interleaving.proofs.second.read_column.Statement.{statement}
 use Rattle.interleaving.proofs.second.read_column.Tie as tie
 
@@ -32,7 +32,7 @@ loop-less : tie.Need-loop-less Inv-loop μ-loop
 loop-less c = omega arith
 
 loop-again : tie.Need-loop-again Inv-loop μ-loop
-loop-again c = let i = c .before .before .loop .inv in (weave (i .0) (i .1) (omega arith), down-next (i .1) (omega arith))
+loop-again c = weave (c .before .before .loop .inv) (omega arith)
 
 same-length : tie.Need-same-length Inv-loop μ-loop
 same-length c = c .before .loop .inv .0 .filling .long ∙ sym (c .before .before .pre .0 .filling .long)
