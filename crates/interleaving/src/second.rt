@@ -9,7 +9,7 @@ ghost use Rattle.interleaving.specs.Columns.{height};
 ghost use Rattle.interleaving.specs.Second.{secondInterleaved, secondUndone, comesFrom};
 ghost use Rattle.interleaving.specs.Descent.{Turned, Down, Woven, Unwoven};
 
-// The column of turn t, its order being a local for the reason that `orders` gives.
+// The column of turn t. The order is lent from a local, for the reason that `orders` gives.
 fn column_at(columns: &[u8; 30], t: usize) -> usize
     requires { ⌜ (now columns ≡ order) × (t < 30) ⌝ }
     ensures { λ r. ⌜ (r ≡ getD order t 0) × (r < 30) ⌝ }
@@ -17,7 +17,7 @@ fn column_at(columns: &[u8; 30], t: usize) -> usize
     columns[t] as usize
 }
 
-// The column of turn t is read downwards, to index k and on. The answer is the index after it.
+// The column of turn t is read downwards, to `index` and on. The answer is the index after it.
 fn read_column(src: &[u8], t: usize, column: usize, index: usize, dst: &mut [u8]) -> usize
     requires { ⌜ Woven 0 (now src) (now dst) index × Down (length (now src)) t index column ⌝ }
     ensures { λ r. ⌜ Woven 0 (now (src .entry)) (now (dst .exit)) r × Turned (length (now (src .entry))) (t + 1) r ⌝ }

@@ -89,7 +89,7 @@ fn start(caps: &[u16]) -> Mark
     }
 }
 
-// How long a PhCH that takes v and has had `had` turns by bit x of another keeps its room, as a bit of that one, and `end` at most.
+// Up to which bit of PhCH p another, which takes v and has had `had` turns by p's bit x, has room each time; `end` at most.
 fn until(end: usize, v: usize, had: usize, x: usize) -> usize
     requires { ⌜ (x ≤ had) × (had < v) ⌝ }
     ensures { λ r. ⌜ r ≡ min end (v - (had - x)) ⌝ }
