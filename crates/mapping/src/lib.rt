@@ -111,10 +111,8 @@ fn reach(caps: &[u16], p: usize, u: usize, x: usize) -> Stretch
         if had < v {
             stride += 1;
             end = until(end, v, had, x);
-            q += 1;
-        } else {
-            q += 1;
         }
+        q += 1;
     }
     Stretch {
         room: u,
