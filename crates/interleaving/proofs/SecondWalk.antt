@@ -5,9 +5,8 @@ use Prim.Native.Nat.{ℕ, suc, _+_, _*_, _-_, _≤_, _<_}
 use native.Mathlib.Numerals.{add-one}
 use native.Mathlib.Omega.{arith}
 use lib.ListN.{length, getD, set}
-use Rattle.laws.specs.Filling.{Filling}
 use Rattle.laws.specs.Sums.{sumTo}
-use Rattle.laws.proofs.FillingLaws.{filling-put, filling-next, filling-ends}
+use Rattle.laws.proofs.FillingLaws.{filling-starts, filling-put, filling-next, filling-ends}
 use Rattle.laws.proofs.LeastLaws.{passes-one}
 use Rattle.laws.proofs.TestLaws.{split}
 use Rattle.laws.proofs.TableLaws.{tabled}
@@ -15,27 +14,30 @@ use Rattle.orders.specs.Orders.{order}
 use Rattle.orders.proofs.OrderLaws.{order-turn}
 use Rattle.interleaving.specs.Columns.{height}
 use Rattle.interleaving.specs.Second.{secondInterleaved, readBefore, goesTo, turnAt, comesFrom, secondUndone}
+use Rattle.interleaving.specs.Descent.{Turned, Down, Woven, Unwoven}
 use Rattle.interleaving.proofs.SecondLaws.{read-suc, read-all, place-row, place-below, place-once, turn-passes, second-length, second-place}
 
--- of K elements, in turn t, element i goes to index k
-pub record Reading (K t k i : ℕ) : Type 0 where
-  pub turn : t < 30
-  pub from : readBefore K t ≤ k
-  pub to : k ≤ readBefore K (suc t)
-  pub index : i ≡ 30 * (k - readBefore K t) + getD order t 0
+pub turned-down : {K t k i : ℕ} → Turned K t k → t < 30 → i ≡ getD order t 0 → Down K t k i
+turned-down {K} {t} w h q =
+    record { turn = h; from = omega (arith, w .index); to = omega (arith, w .index, read-suc K t); index = omega (arith, w .index) }
 
-pub reading-starts : (K t k : ℕ) {i : ℕ} → t < 30 → k ≡ readBefore K t → i ≡ getD order t 0 → Reading K t k i
-reading-starts K t k h e q =
-    record { turn = h; from = omega arith; to = omega (arith, read-suc K t); index = omega arith }
+turned-starts : (K : ℕ) → Turned K 0 0
+unfolding sumTo
+turned-starts K = record { turn = omega arith; index = refl }
 
-module _ {K t k i : ℕ} (r : Reading K t k i) where
-  pub reading-ends : K ≤ i → k ≡ readBefore K (t + 1)
-  reading-ends h =
-      rw (add-one t) (omega (arith, r .from, r .to, r .index, read-suc K t, order-turn t (r .turn) .0))
+turned-all : {K t k : ℕ} → Turned K t k → 30 ≤ t → k ≡ K
+turned-all {K} {t} w h = let e : t ≡ 30 = omega (arith, w .turn) in w .index ∙ ap (readBefore K) e ∙ read-all K
+
+module _ {K t k i : ℕ} (r : Down K t k i) where
+  pub down-ends : K ≤ i → Turned K (t + 1) k
+  down-ends h = record {
+    turn = omega (arith, r .turn);
+    index = rw (add-one t) (omega (arith, r .from, r .to, r .index, read-suc K t, order-turn t (r .turn) .0));
+  }
 
   module _ (h : i < K) where
-    pub reading-next : Reading K t (k + 1) (i + 30)
-    reading-next =
+    down-next : Down K t (k + 1) (i + 30)
+    down-next =
         record {
           turn = r .turn;
           from = omega (arith, r .from);
@@ -43,11 +45,11 @@ module _ {K t k i : ℕ} (r : Reading K t k i) where
           index = omega (arith, r .from, r .index);
         }
 
-    pub reading-place : goesTo K i ≡ k
-    reading-place = ap (goesTo K) (r .index) ∙ place-row K t (k - readBefore K t) (r .turn) ∙ omega (arith, r .from)
+    down-place : goesTo K i ≡ k
+    down-place = ap (goesTo K) (r .index) ∙ place-row K t (k - readBefore K t) (r .turn) ∙ omega (arith, r .from)
 
-    pub reading-below : k < K
-    reading-below = omega (arith, reading-place, place-below K i h)
+    pub down-below : k < K
+    down-below = omega (arith, down-place, place-below K i h)
 
 -- the walk back: index j lies in turn t or past it, left elements further
 pub record Passing (K j t c h left : ℕ) : Type 0 where
@@ -88,30 +90,34 @@ module _ {K j t c h left : ℕ} (p : Passing K j t c h left) where
         in
         rw q (omega (arith, p .index, p .column))
 
--- interleaving: index k is written
-module _ {A : Type 0} (z : A) (src : List A) where
-  abbrev pub Woven : List A → ℕ → Type 0
-  Woven dst k = Filling z (λ j. getD (secondInterleaved src) j z) (λ j. j) (length src) dst k
+-- step 8: index k is written
+module _ {A : Type 0} {z : A} {src dst : List A} where
+  pub woven-starts : length dst ≡ length src → Woven z src dst 0 × Turned (length src) 0 0
+  woven-starts h = (record { filling = filling-starts dst h }, turned-starts (length src))
 
-  pub weave : {dst : List A} {t k i : ℕ} → Woven dst k → Reading (length src) t k i → i < length src → Woven (set dst k (getD src i z)) (k + 1)
-  weave {dst} {t} {k} {i} f r h =
-      filling-next f (getD src i z) (reading-below r h)
-      (sym (second-place src i z h) ∙ ap (λ (j : ℕ). getD (secondInterleaved src) j z) (reading-place r h))
+  pub weave : {t k i : ℕ} → Woven z src dst k × Down (length src) t k i → i < length src
+      → Woven z src (set dst k (getD src i z)) (k + 1) × Down (length src) t (k + 1) (i + 30)
+  weave {i = i} w h =
+      let e = sym (second-place src i z h) ∙ ap (λ (j : ℕ). getD (secondInterleaved src) j z) (down-place (w .1) h) in
+      (record { filling = filling-next (w .0 .filling) (getD src i z) (down-below (w .1) h) e }, down-next (w .1) h)
 
-  pub woven : {dst : List A} {k : ℕ} → Woven dst k → k ≡ readBefore (length src) 30 → dst ≡ secondInterleaved src
-  woven f e =
-      filling-ends f (λ j l. omega (arith, read-all (length src)))
+  pub woven-ends : {t k : ℕ} → Woven z src dst k × Turned (length src) t k → 30 ≤ t → dst ≡ secondInterleaved src
+  woven-ends w h =
+      filling-ends (w .0 .filling) (λ j l. omega (arith, turned-all (w .1) h))
       ∙ sym (tabled (λ j. getD (secondInterleaved src) j z) (secondInterleaved src) (length src) z (second-length src) (λ j l. refl))
 
-  -- its undoing: element i is written
-  abbrev pub Undoing : List A → ℕ → Type 0
-  Undoing dst k = Filling z (λ j. getD src (goesTo (length src) j) z) (goesTo (length src)) (length src) dst k
+  -- undone: element i is written
+  pub unwoven-starts : length dst ≡ length src → Unwoven z src dst 0 × Turned (length src) 0 0
+  unwoven-starts h = (record { filling = filling-starts dst h }, turned-starts (length src))
 
-  pub undo : {dst : List A} {t k i : ℕ} → Undoing dst k → Reading (length src) t k i → i < length src → Undoing (set dst i (getD src k z)) (k + 1)
-  undo {dst} {t} {k} {i} f r h =
-      let e = reading-place r h in
-      filling-put f i (getD src k z) h (λ j l q. place-once (length src) j i l h (q ∙ sym e)) (ap (λ (j : ℕ). getD src j z) (sym e)) e
+  pub unweave : {t k i : ℕ} → Unwoven z src dst k × Down (length src) t k i → i < length src
+      → Unwoven z src (set dst i (getD src k z)) (k + 1) × Down (length src) t (k + 1) (i + 30)
+  unweave {k = k} {i = i} w h =
+      let e = down-place (w .1) h in
+      let q : getD src k z ≡ getD src (goesTo (length src) i) z = ap (λ (j : ℕ). getD src j z) (sym e) in
+      let f = filling-put (w .0 .filling) i (getD src k z) h (λ j l v. place-once (length src) j i l h (v ∙ sym e)) q e in
+      (record { filling = f }, down-next (w .1) h)
 
-  pub undone : {dst : List A} {k : ℕ} → Undoing dst k → k ≡ readBefore (length src) 30 → dst ≡ secondUndone z src
+  pub unwoven-ends : {t k : ℕ} → Unwoven z src dst k × Turned (length src) t k → 30 ≤ t → dst ≡ secondUndone z src
   unfolding secondUndone
-  undone f e = filling-ends f (λ j l. omega (arith, read-all (length src), place-below (length src) j l))
+  unwoven-ends w h = filling-ends (w .0 .filling) (λ j l. omega (arith, turned-all (w .1) h, place-below (length src) j l))

@@ -1,3 +1,4 @@
 pub mod Columns
 pub mod First
 pub mod Second
+pub mod Descent

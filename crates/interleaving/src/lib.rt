@@ -7,12 +7,12 @@ ghost use Rattle.sheet.specs.Sizes.{framesIn};
 pub mod first;
 pub mod second;
 
-// F of a TTI.
+// F of a TTI, as an index.
 fn frames(tti: usize) -> usize
     requires { ⌜ tti ≤ mostTti ⌝ }
     ensures { λ r. ⌜ (r ≡ framesIn tti) × (1 ≤ r) × (r ≤ 8) ⌝ }
 {
-    1usize << tti
+    sheet::sizes::frames(tti as u16) as usize
 }
 
 // An entry of an order as an index.

@@ -1,12 +1,36 @@
 // Step 8 and its undoing.
 ghost use mathlib.Core.Path.{_≡_};
-ghost use Prim.Native.Nat.{_≤_, _<_};
+ghost use Prim.Native.Nat.{_+_, _≤_, _<_};
 ghost use lib.Ieee.{nan};
-ghost use lib.ListN.{length};
+ghost use lib.ListN.{length, getD};
 ghost use Rattle.sheet.specs.Counts.{mostBits};
+ghost use Rattle.orders.specs.Orders.{order};
 ghost use Rattle.interleaving.specs.Columns.{height};
 ghost use Rattle.interleaving.specs.Second.{secondInterleaved, secondUndone, comesFrom};
-use crate::wide;
+ghost use Rattle.interleaving.specs.Descent.{Turned, Down, Woven, Unwoven};
+
+// The column of turn t. The order is lent from a local, for the reason that `orders` gives.
+fn column_at(columns: &[u8; 30], t: usize) -> usize
+    requires { ⌜ (now columns ≡ order) × (t < 30) ⌝ }
+    ensures { λ r. ⌜ (r ≡ getD order t 0) × (r < 30) ⌝ }
+{
+    columns[t] as usize
+}
+
+// The column of turn t is read downwards, to `index` and on. The answer is the index after it.
+fn read_column(src: &[u8], t: usize, column: usize, index: usize, dst: &mut [u8]) -> usize
+    requires { ⌜ Woven 0 (now src) (now dst) index × Down (length (now src)) t index column ⌝ }
+    ensures { λ r. ⌜ Woven 0 (now (src .entry)) (now (dst .exit)) r × Turned (length (now (src .entry))) (t + 1) r ⌝ }
+{
+    let mut from = column;
+    let mut k = index;
+    while from < src.len() {
+        dst[k] = src[from];
+        k += 1;
+        from += 30;
+    }
+    k
+}
 
 // The columns are read in their order, each downwards.
 pub fn interleave(src: &[u8], dst: &mut [u8])
@@ -17,14 +41,24 @@ pub fn interleave(src: &[u8], dst: &mut [u8])
     let mut k = 0;
     let mut t = 0;
     while t < 30 {
-        let mut from = wide(order[t]);
-        while from < src.len() {
-            dst[k] = src[from];
-            k += 1;
-            from += 30;
-        }
+        k = read_column(src, t, column_at(&order, t), k, dst);
         t += 1;
     }
+}
+
+// The same, with the column written.
+fn write_column(src: &[f32], t: usize, column: usize, index: usize, dst: &mut [f32]) -> usize
+    requires { ⌜ Unwoven nan (now src) (now dst) index × Down (length (now src)) t index column ⌝ }
+    ensures { λ r. ⌜ Unwoven nan (now (src .entry)) (now (dst .exit)) r × Turned (length (now (src .entry))) (t + 1) r ⌝ }
+{
+    let mut to = column;
+    let mut k = index;
+    while to < src.len() {
+        dst[to] = src[k];
+        k += 1;
+        to += 30;
+    }
+    k
 }
 
 // The columns are written in their order, each downwards.
@@ -36,12 +70,7 @@ pub fn deinterleave(src: &[f32], dst: &mut [f32])
     let mut k = 0;
     let mut t = 0;
     while t < 30 {
-        let mut to = wide(order[t]);
-        while to < dst.len() {
-            dst[to] = src[k];
-            k += 1;
-            to += 30;
-        }
+        k = write_column(src, t, column_at(&order, t), k, dst);
         t += 1;
     }
 }
@@ -61,13 +90,13 @@ pub fn source_at(n: u64, j: u64) -> u64
 {
     let order = orders::columns();
     let mut t: usize = 0;
-    let mut c = wide(order[t]) as u64;
+    let mut c = column_at(&order, t) as u64;
     let mut h = height_of(n, c);
     let mut left = j;
     while h <= left {
         left -= h;
         t += 1;
-        c = wide(order[t]) as u64;
+        c = column_at(&order, t) as u64;
         h = height_of(n, c);
     }
     30 * left + c

@@ -5,3 +5,4 @@ pub mod TurnLaws
 pub mod MappedLaws
 pub mod StrideLaws
 pub mod DoneLaws
+pub mod WalkLaws

@@ -1,17 +1,25 @@
 // Step 9: mapping a slot's bits to its physical channels (PhCHs), and the undoing. PhCHs and their bits are counted from 0 here.
-// Both go along one PhCH after the other. From one bit of it to its next the number of the bit moves by a stride, which changes only where a
-// PhCH fills up.
+// Both go along one PhCH after the other, stretch by stretch. From one bit of a PhCH to its next the number of the bit moves by a stride, which
+// changes only where a PhCH fills up.
 ghost use mathlib.Core.Path.{_≡_};
 ghost use Prim.Native.Nat.{min, _+_, _-_, _≤_, _<_};
 ghost use lib.ListN.{length};
 ghost use lib.Ieee.{nan};
-ghost use Rattle.mapping.specs.Mapping.{posOf, numberOf, filledAs, ones, at, slotOf, slotUndone, Slot};
-ghost use Rattle.mapping.specs.Strides.{turns, Reached, Steps, Least, Done, Ready};
+ghost use Rattle.mapping.specs.Mapping.{posOf, numberOf, filledAs, ones, at, slotSize, slotOf, slotUndone, Slot};
+ghost use Rattle.mapping.specs.Strides.{turns, walk, Reached, Least, Marked, Leg, Along, Onward};
 
 fn lesser(a: usize, b: usize) -> usize
     ensures { λ r. ⌜ r ≡ min a b ⌝ }
 {
     if a < b { a } else { b }
+}
+
+// What PhCH p takes.
+fn capacity(caps: &[u16], p: usize) -> usize
+    requires { ⌜ p < length (now caps) ⌝ }
+    ensures { λ r. ⌜ (r ≡ at (now (caps .entry)) p) × (r < 65536) ⌝ }
+{
+    caps[p] as usize
 }
 
 // The place, in a slot in frame order, of bit x of PhCH p, whose u places start at base. Its number is p + 1: odd ones fill from place 1 up,
@@ -35,35 +43,22 @@ fn turns_had(p: usize, x: usize, q: usize) -> usize
     if q < p { x + 1 } else { x }
 }
 
-// The numbers of a PhCH's bits, from one of them up to `end`, are a stride apart.
-struct Stretch {
-    stride: usize,
-    end: usize,
+// Where the walk stands: before bit x of PhCH p, whose number is k. The PhCH's places start at base and its bit 0 has the number `first`;
+// no capacity is below `low`.
+struct Mark {
+    low: usize,
+    p: usize,
+    base: usize,
+    first: usize,
+    x: usize,
+    k: usize,
 }
 
-// The stretch of PhCH p from its bit x on, by asking each PhCH whether it has room, and for how long.
-fn reach(caps: &[u16], p: usize, x: usize) -> Stretch
-    requires { ⌜ (p < length (now caps)) × (x < at (now caps) p) ⌝ }
-    ensures { λ r. ⌜ Reached (at (now (caps .entry))) (length (now (caps .entry))) p x (r .stride) (r .end) ⌝ }
-{
-    let mut stride: usize = 0;
-    let mut end = caps[p] as usize;
-    let mut q: usize = 0;
-    while q < caps.len() {
-        let v = caps[q] as usize;
-        let had = turns_had(p, x, q);
-        if had < v {
-            stride += 1;
-            end = lesser(end, v - (had - x));
-            q += 1;
-        } else {
-            q += 1;
-        }
-    }
-    Stretch {
-        stride: stride,
-        end: end,
-    }
+// The numbers of a PhCH's bits, from one of them up to `end`, are a stride apart. The PhCH has `room` places.
+struct Stretch {
+    room: usize,
+    stride: usize,
+    end: usize,
 }
 
 // A number that no capacity is below.
@@ -73,86 +68,142 @@ fn least(caps: &[u16]) -> usize
     let mut m: usize = 65535;
     let mut q: usize = 0;
     while q < caps.len() {
-        m = lesser(m, caps[q] as usize);
+        m = lesser(m, capacity(caps, q));
         q += 1;
     }
     m
 }
 
-// The stretch, at once where no PhCH is near its end or x is the PhCH's last bit, and else by asking.
-fn stretch_from(caps: &[u16], low: usize, p: usize, x: usize) -> Stretch
-    requires { ⌜ (p < length (now caps)) × (x < at (now caps) p) × Least (now caps) (length (now caps)) low ⌝ }
-    ensures { λ r. ⌜ Steps (at (now (caps .entry))) (length (now (caps .entry))) p x (r .stride) (r .end) ⌝ }
+// Before a slot's first bit.
+fn start(caps: &[u16]) -> Mark
+    requires { ⌜ slotSize (now caps) + length (now caps) < 18446744073709551616 ⌝ }
+    ensures { λ r. ⌜ Marked (now (caps .entry)) r × (r .base + r .x ≡ 0) ⌝ }
 {
-    let u = caps[p] as usize;
+    Mark {
+        low: least(caps),
+        p: 0,
+        base: 0,
+        first: 0,
+        x: 0,
+        k: 0,
+    }
+}
+
+// Up to which bit of PhCH p another, which takes v and has had `had` turns by p's bit x, has room each time; `end` at most.
+fn until(end: usize, v: usize, had: usize, x: usize) -> usize
+    requires { ⌜ (x ≤ had) × (had < v) ⌝ }
+    ensures { λ r. ⌜ r ≡ min end (v - (had - x)) ⌝ }
+{
+    lesser(end, v - (had - x))
+}
+
+// The stretch of PhCH p, which has u places, from its bit x on, by asking each PhCH whether it has room, and for how long.
+fn reach(caps: &[u16], p: usize, u: usize, x: usize) -> Stretch
+    requires { ⌜ (u ≡ at (now caps) p) × (u < 65536) × (x < u) ⌝ }
+    ensures { λ r. ⌜ (r .room ≡ u) × Reached (at (now (caps .entry))) (length (now (caps .entry))) p x (r .stride) (r .end) ⌝ }
+{
+    let mut stride: usize = 0;
+    let mut end = u;
+    let mut q: usize = 0;
+    while q < caps.len() {
+        let v = capacity(caps, q);
+        let had = turns_had(p, x, q);
+        if had < v {
+            stride += 1;
+            end = until(end, v, had, x);
+        }
+        q += 1;
+    }
+    Stretch {
+        room: u,
+        stride: stride,
+        end: end,
+    }
+}
+
+// The stretch, at once where no PhCH is near its end or the PhCH has one bit left or none, and else by asking. After a PhCH's last bit the
+// stride does not matter.
+fn stretch_from(caps: &[u16], m: Mark) -> Stretch
+    requires { ⌜ Marked (now caps) m × (m .p < length (now caps)) ⌝ }
+    ensures { λ r. ⌜ Leg (now (caps .entry)) m r ⌝ }
+{
+    let u = capacity(caps, m.p);
+    let low = m.low;
+    let x = m.x;
     if x + 1 < low {
         Stretch {
+            room: u,
             stride: caps.len(),
-            end: low - 1,
+            end: if u == low { u } else { low - 1 },
         }
-    } else if x + 1 == u {
-        Stretch { stride: 0, end: u }
+    } else if u <= x + 1 {
+        Stretch {
+            room: u,
+            stride: 0,
+            end: u,
+        }
     } else {
-        reach(caps, p, x)
+        reach(caps, m.p, u, x)
     }
 }
 
-// Fills PhCH p, whose places start at base and whose first bit is `first`.
-fn fill(
-    bits: &[u8],
-    caps: &[u16],
-    low: usize,
-    p: usize,
-    base: usize,
-    first: usize,
-    frame: &mut [u8],
-)
-    requires { ⌜ Ready (now caps) 0 (now bits) low p base first (now frame) ⌝ }
-    ensures { λ _. ⌜ Done (at (now (caps .entry))) (length (now (caps .entry))) 0 (now (bits .entry)) (p + 1) 0 (now (frame .exit)) ⌝ }
+// After a stretch, k being the number of the bit that comes next in the PhCH: there, or at the next PhCH.
+fn onward(caps: &[u16], m: Mark, r: Stretch, k: usize) -> Mark
+    requires { ⌜ Leg (now caps) m r × (r .end < r .room → k ≡ walk (at (now caps)) (length (now caps)) (m .p) (r .end)) ⌝ }
+    ensures { λ n. ⌜ Onward (now (caps .entry)) m r n ⌝ }
 {
-    let u = caps[p] as usize;
-    let mut x: usize = 0;
-    let mut k = first;
-    while x < u {
-        let r = stretch_from(caps, low, p, x);
-        let s = r.stride;
-        let e = r.end;
-        while x < e {
-            let to = spot(base, p, u, x);
-            frame[to] = bits[k];
-            k += s;
-            x += 1;
+    if r.end < r.room {
+        Mark {
+            low: m.low,
+            p: m.p,
+            base: m.base,
+            first: m.first,
+            x: r.end,
+            k: k,
+        }
+    } else {
+        let first = m.first + lesser(r.room, 1);
+        Mark {
+            low: m.low,
+            p: m.p + 1,
+            base: m.base + r.room,
+            first: first,
+            x: 0,
+            k: first,
         }
     }
 }
 
-// Empties PhCH p: the same, with the bits written.
-fn empty(
-    frame: &[f32],
-    caps: &[u16],
-    low: usize,
-    p: usize,
-    base: usize,
-    first: usize,
-    bits: &mut [f32],
-)
-    requires { ⌜ Ready (now caps) nan (now bits) low p base first (now frame) ⌝ }
-    ensures { λ _. ⌜ Done (at (now (caps .entry))) (length (now (caps .entry))) nan (now (bits .exit)) (p + 1) 0 (now (frame .entry)) ⌝ }
+// Fills a stretch, and answers the number of the bit after it.
+fn fill(bits: &[u8], caps: &[u16], m: Mark, r: Stretch, frame: &mut [u8]) -> usize
+    requires { ⌜ Along (now caps) 0 (now bits) m r (m .x) (m .k) (now frame) ⌝ }
+    ensures { λ k. ⌜ Along (now (caps .entry)) 0 (now (bits .entry)) m r (r .end) k (now (frame .exit)) ⌝ }
 {
-    let u = caps[p] as usize;
-    let mut x: usize = 0;
-    let mut k = first;
-    while x < u {
-        let r = stretch_from(caps, low, p, x);
-        let s = r.stride;
-        let e = r.end;
-        while x < e {
-            let from = spot(base, p, u, x);
-            bits[k] = frame[from];
-            k += s;
-            x += 1;
-        }
+    let mut x = m.x;
+    let mut k = m.k;
+    while x < r.end {
+        let to = spot(m.base, m.p, r.room, x);
+        frame[to] = bits[k];
+        k += r.stride;
+        x += 1;
     }
+    k
+}
+
+// Empties a stretch: the same, with the bits written.
+fn empty(frame: &[f32], caps: &[u16], m: Mark, r: Stretch, bits: &mut [f32]) -> usize
+    requires { ⌜ Along (now caps) nan (now bits) m r (m .x) (m .k) (now frame) ⌝ }
+    ensures { λ k. ⌜ Along (now (caps .entry)) nan (now (bits .exit)) m r (r .end) k (now (frame .entry)) ⌝ }
+{
+    let mut x = m.x;
+    let mut k = m.k;
+    while x < r.end {
+        let from = spot(m.base, m.p, r.room, x);
+        bits[k] = frame[from];
+        k += r.stride;
+        x += 1;
+    }
+    k
 }
 
 // Maps the bits of a slot, one at a time to each PhCH that has room. The frame is the slot's part of it.
@@ -160,16 +211,11 @@ pub fn map_slot(bits: &[u8], caps: &[u16], frame: &mut [u8])
     requires { ⌜ Slot (now caps) (length (now bits)) (length (now frame)) ⌝ }
     ensures { λ _. ⌜ now (frame .exit) ≡ slotOf ones (now (caps .entry)) (now (bits .entry)) (now (frame .entry)) ⌝ }
 {
-    let low = least(caps);
-    let mut p: usize = 0;
-    let mut base: usize = 0;
-    let mut first: usize = 0;
-    while p < caps.len() {
-        fill(bits, caps, low, p, base, first, frame);
-        let u = caps[p] as usize;
-        first += lesser(u, 1);
-        base += u;
-        p += 1;
+    let mut m = start(caps);
+    while m.p < caps.len() {
+        let r = stretch_from(caps, m);
+        let k = fill(bits, caps, m, r, frame);
+        m = onward(caps, m, r, k);
     }
 }
 
@@ -178,16 +224,11 @@ pub fn unmap_slot(frame: &[f32], caps: &[u16], bits: &mut [f32])
     requires { ⌜ Slot (now caps) (length (now bits)) (length (now frame)) ⌝ }
     ensures { λ _. ⌜ now (bits .exit) ≡ slotUndone ones (now (caps .entry)) nan (now (frame .entry)) ⌝ }
 {
-    let low = least(caps);
-    let mut p: usize = 0;
-    let mut base: usize = 0;
-    let mut first: usize = 0;
-    while p < caps.len() {
-        empty(frame, caps, low, p, base, first, bits);
-        let u = caps[p] as usize;
-        first += lesser(u, 1);
-        base += u;
-        p += 1;
+    let mut m = start(caps);
+    while m.p < caps.len() {
+        let r = stretch_from(caps, m);
+        let k = empty(frame, caps, m, r, bits);
+        m = onward(caps, m, r, k);
     }
 }
 
@@ -204,11 +245,11 @@ pub fn bit_at(caps: &[u16], p: usize, place: usize) -> usize
     requires { ⌜ (p < length (now caps)) × (length (now caps) ≤ 16) × (0 < place) × (place ≤ at (now caps) p) ⌝ }
     ensures { λ r. ⌜ r ≡ numberOf (at (now (caps .entry))) ones (length (now (caps .entry))) p (filledAs (at (now (caps .entry)) p) (p + 1) place) ⌝ }
 {
-    let x = rank_at(p, caps[p] as usize, place);
+    let x = rank_at(p, capacity(caps, p), place);
     let mut sum: usize = 0;
     let mut q: usize = 0;
     while q < caps.len() {
-        sum += lesser(caps[q] as usize, turns_had(p, x, q));
+        sum += lesser(capacity(caps, q), turns_had(p, x, q));
         q += 1;
     }
     sum

@@ -11,7 +11,7 @@ use Rattle.pattern.specs.Pattern.{asIs}
 use Rattle.pattern.specs.Text.{matchedText}
 use Rattle.interleaving.specs.First.{equalised, segmentOf}
 use Rattle.interleaving.specs.Second.{secondInterleaved}
-use Rattle.mapping.specs.Mapping.{slotOf}
+use Rattle.mapping.specs.Mapping.{ones, slotOf}
 
 pub record Row : Type 0 where
   pub given : List ℕ
@@ -39,10 +39,10 @@ sentAlone N D = matchedText asIs (pos D -ℤ pos N) N (startOf N (pos D -ℤ pos
 
 -- what PhCH 1 and PhCH 2 hold of a slot of these two capacities
 abbrev pub firstCode : ℕ → ℕ → List ℕ
-firstCode U W = take U (slotOf (U ∷ W ∷ []) (bits (U + W)) (replicate (U + W) 0))
+firstCode U W = take U (slotOf ones (U ∷ W ∷ []) (bits (U + W)) (replicate (U + W) 0))
 
 abbrev pub secondCode : ℕ → ℕ → List ℕ
-secondCode U W = drop U (slotOf (U ∷ W ∷ []) (bits (U + W)) (replicate (U + W) 0))
+secondCode U W = drop U (slotOf ones (U ∷ W ∷ []) (bits (U + W)) (replicate (U + W) 0))
 
 -- one row for each list that the paper prints, so that no border between two of them is lost
 unfoldable pub rows : List Row

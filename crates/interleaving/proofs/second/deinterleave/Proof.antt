@@ -1,125 +1,48 @@
 use borrow.Author.Needs.{needs}
 use native.Mathlib.Omega.{arith}
-use denote.Ref.{now}
-use mathlib.Core.Path.{_≡_, refl, sym, ap, _∙_}
-use mathlib.Core.List.{List}
-use Prim.Native.Nat.{ℕ, _-_, _≤_, _<_}
+use mathlib.Core.Path.{sym, _∙_}
+use Prim.Native.Nat.{_-_}
+use lib.ListN.{length}
 use lib.Ieee.{nan}
-use lib.ListN.{length, getD}
-use Rattle.laws.specs.Sums.{sumTo}
-use Rattle.laws.proofs.FillingLaws.{filling-starts}
-use Rattle.interleaving.specs.Second.{readBefore}
-use Rattle.interleaving.proofs.SecondWalk.{Reading, reading-starts, reading-next, reading-ends, reading-below, Undoing, undo, undone}
+use Rattle.interleaving.specs.Descent.{Turned, Unwoven}
+use Rattle.interleaving.proofs.SecondWalk.{turned-down, unwoven-starts, unwoven-ends}
 use Rattle.interleaving.proofs.second.deinterleave.Statement.{statement}
 use Rattle.interleaving.proofs.second.deinterleave.Tie as tie
 
-abbrev Inv-loop2 : tie.InvT-loop2
-Inv-loop2 src dst₀ order k₀ t to₀ dst k to = (Undoing nan src dst k) × (Reading (length src) t k to)
-
-abbrev μ-loop2 : tie.MeasureT-loop2
-μ-loop2 src dst₀ order k₀ t to₀ dst k to = length src - to
-
 abbrev Inv-loop : tie.InvT-loop
-Inv-loop src dst₀ order k₀ t₀ dst k t = (t ≤ 30) × (k ≡ readBefore (length src) t) × (Undoing nan src dst k)
+Inv-loop src dst₀ order k₀ t₀ dst k t = Unwoven nan src dst k × Turned (length src) t k
 
 abbrev μ-loop : tie.MeasureT-loop
 μ-loop src dst₀ order k₀ t₀ dst k t = 30 - t
 
-columns-requires : tie.Need-columns-requires Inv-loop2 μ-loop2 Inv-loop μ-loop
+columns-requires : tie.Need-columns-requires Inv-loop μ-loop
 columns-requires c κs = search needs
 
-loop-holds : tie.Need-loop-holds Inv-loop2 μ-loop2 Inv-loop μ-loop
-unfolding sumTo
-loop-holds c =
-    let s = c .before .before .before in
-    (omega arith, refl, filling-starts (now (s .args .dst)) (s .pre))
+loop-holds : tie.Need-loop-holds Inv-loop μ-loop
+loop-holds c = unwoven-starts (c .before .before .before .pre)
 
-array-read-wide : tie.Need-array-read-wide Inv-loop2 μ-loop2 Inv-loop μ-loop
-array-read-wide c = omega arith
+column-at-requires : tie.Need-column-at-requires Inv-loop μ-loop
+column-at-requires c κs = (c .before .before .before .columns .ensures, omega arith)
 
-wide-requires : tie.Need-wide-requires Inv-loop2 μ-loop2 Inv-loop μ-loop
-wide-requires c κs = search needs
+write-column-requires : tie.Need-write-column-requires Inv-loop μ-loop
+write-column-requires c κs = let i = c .before .before .before .before .loop .inv in (i .0, turned-down (i .1) (omega arith) (c .before .column-at .ensures .0))
 
-loop2-holds : tie.Need-loop2-holds Inv-loop2 μ-loop2 Inv-loop μ-loop
-loop2-holds c =
-    let src = now (c .before .before .before .before .before .before .args .src) in
-    let l = c .before .before .loop in
-    (l .inv .2, reading-starts (length src) (l .t) (l .k) (omega arith) (l .inv .1) (c .wide .ensures ∙ ap (λ (r : List ℕ). getD r (l .t) 0) (c .before .before .before .columns .ensures)))
-
--- what is read stands in src
-inside : (c : tie.In-loop2 Inv-loop2 μ-loop2 Inv-loop μ-loop) → c .before .loop2 .k < length (now (c .before .before .before .before .before .before .before .before .args .src))
-inside c = let l = c .before .loop2 in reading-below (l .inv .1) (omega (arith, l .inv .0 .long))
-
-mul-dst : tie.Need-mul-dst Inv-loop2 μ-loop2 Inv-loop μ-loop
-mul-dst c = omega (arith, inside c)
-
-shared-slice-read-dst : tie.Need-shared-slice-read-dst Inv-loop2 μ-loop2 Inv-loop μ-loop
-shared-slice-read-dst c = omega (arith, inside (c .before))
-
-mul-dst-2 : tie.Need-mul-dst-2 Inv-loop2 μ-loop2 Inv-loop μ-loop
-mul-dst-2 c = omega (arith, inside (c .before))
-
-slice-write-dst : tie.Need-slice-write-dst Inv-loop2 μ-loop2 Inv-loop μ-loop
-slice-write-dst c = omega (arith, inside (c .before))
-
-add-k : tie.Need-add-k Inv-loop2 μ-loop2 Inv-loop μ-loop
-add-k c = omega (arith, inside (c .before))
-
-add-to : tie.Need-add-to Inv-loop2 μ-loop2 Inv-loop μ-loop
-add-to c = omega arith
-
-loop2-less : tie.Need-loop2-less Inv-loop2 μ-loop2 Inv-loop μ-loop
-loop2-less c = omega (arith, c .before .before .loop2 .inv .0 .long)
-
-loop2-again : tie.Need-loop2-again Inv-loop2 μ-loop2 Inv-loop μ-loop
-loop2-again c =
-    let src = now (c .before .before .before .before .before .before .before .before .before .args .src) in
-    let l = c .before .before .loop2 in
-    let b : l .to < length src = omega (arith, l .inv .0 .long) in
-    (undo nan src (l .inv .0) (l .inv .1) b, reading-next (l .inv .1) b)
-
-add-t : tie.Need-add-t Inv-loop2 μ-loop2 Inv-loop μ-loop
+add-t : tie.Need-add-t Inv-loop μ-loop
 add-t c = omega arith
 
-loop-less : tie.Need-loop-less Inv-loop2 μ-loop2 Inv-loop μ-loop
+loop-less : tie.Need-loop-less Inv-loop μ-loop
 loop-less c = omega arith
 
-loop-again : tie.Need-loop-again Inv-loop2 μ-loop2 Inv-loop μ-loop
-loop-again c = (omega arith, reading-ends (c .before .loop2 .inv .1) (omega (arith, c .before .loop2 .inv .0 .long)), c .before .loop2 .inv .0)
+loop-again : tie.Need-loop-again Inv-loop μ-loop
+loop-again c = c .before .before .write-column .ensures
 
-same-length : tie.Need-same-length Inv-loop2 μ-loop2 Inv-loop μ-loop
-same-length c = c .before .loop .inv .2 .long ∙ sym (c .before .before .before .before .before .pre)
+same-length : tie.Need-same-length Inv-loop μ-loop
+same-length c = c .before .loop .inv .0 .filling .long ∙ sym (c .before .before .before .before .before .pre)
 
-returns : tie.Need-returns Inv-loop2 μ-loop2 Inv-loop μ-loop
-returns c =
-    let src = now (c .before .before .before .before .before .args .src) in
-    let l = c .before .loop in
-    let e : l .t ≡ 30 = omega arith in
-    undone nan src (l .inv .2) (l .inv .1 ∙ ap (readBefore (length src)) e)
+returns : tie.Need-returns Inv-loop μ-loop
+returns c = unwoven-ends (c .before .loop .inv) (omega arith)
 
 pub deinterleave-spec : {M : Type 1} → statement M
 deinterleave-spec =
     tie.close
-    (tie.spec
-    Inv-loop2
-    μ-loop2
-    Inv-loop
-    μ-loop
-    columns-requires
-    loop-holds
-    array-read-wide
-    wide-requires
-    loop2-holds
-    mul-dst
-    shared-slice-read-dst
-    mul-dst-2
-    slice-write-dst
-    add-k
-    add-to
-    loop2-less
-    loop2-again
-    add-t
-    loop-less
-    loop-again
-    same-length
-    returns)
+    (tie.spec Inv-loop μ-loop columns-requires loop-holds column-at-requires write-column-requires add-t loop-less loop-again same-length returns)
