@@ -26,6 +26,7 @@ use Rattle.frame.proofs.FrameLaws.{partOf, turn-inside, sent-matched, length-pa
 use Rattle.naming.specs.Name.{Name, Label, labelAt, labels, copyNamed, labelFrame, bitNumber, bitName}
 use Rattle.naming.proofs.Named.{labels-full}
 use Rattle.joining.specs.Joining.{plusZero, joinOf, valueOf}
+use Rattle.joining.proofs.MadeLaws.{join-value}
 use Rattle.joining.proofs.HomeLaws.{home-shared}
 use Rattle.homing.specs.Home.{heardIn, segmentHome, segmentStart, takenBack, heardAt}
 use Rattle.homing.proofs.GatherLaws.{gathered-spread}
@@ -110,8 +111,11 @@ module _ (sh : Sheet) (ok : Accepted sh) (number : ℕ) (f : Name → Float) whe
     -- "A bit sent once keeps its value bit for bit."
     pub home-once : (d : Float) → copiesOf (changeOf sh i) (sizeOf sh i) (startAt sh number i) m ≡ 1
         → getD (segmentHome sh number i (map f (labelFrame sh number))) m d ≡ f (bitName sh number i m 0)
-    unfolding table joinOf valueOf
-    home-once d q = home-named d ∙ ap (λ (n : ℕ). valueOf (joinOf (table (λ c. f (bitName sh number i m c)) 0 n))) q
+    unfolding table
+    home-once d q =
+        home-named d
+        ∙ ap (λ (n : ℕ). valueOf (joinOf (table (λ c. f (bitName sh number i m c)) 0 n))) q
+        ∙ join-value (f (bitName sh number i m 0)) []
 
     -- "A punctured bit gets +0.0."
     pub home-none : (d : Float) → copiesOf (changeOf sh i) (sizeOf sh i) (startAt sh number i) m ≡ 0

@@ -3,11 +3,12 @@ ghost use mathlib.Core.Path.{_≡_};
 ghost use Prim.Native.Nat.{_≤_, _<_};
 ghost use lib.Ieee.{nan};
 ghost use lib.ListN.{length};
-ghost use Rattle.sheet.specs.Sizes.{sizeOf, capacityAll};
-ghost use Rattle.matching.specs.Shares.{channelPart};
+ghost use Rattle.sheet.specs.Counts.{mostBits};
+ghost use Rattle.sheet.specs.Sizes.{capacityAll, equalisedAll};
+ghost use Rattle.matching.specs.Shares.{shareOf, channelPart};
 ghost use Rattle.opening.specs.Opened.{Opens};
 ghost use Rattle.homing.specs.Gather.{gathered};
-ghost use Rattle.homing.specs.Taking.{hearIn, surveyIn};
+ghost use Rattle.homing.specs.Home.{takenBack};
 ghost use Rattle.homing.specs.Receiving.{Findable, Askable, foundOf, receptionOf, receivedInto, smallFrame, middleFrame, largeFrame};
 use crate::gathering::gather_values;
 use crate::taking::hear_channel;
@@ -46,24 +47,15 @@ pub struct Reception {
     pub link: Link,
 }
 
-fn hear_part(values: &[f32], opened: Opened, number: FrameNumber, i: usize, m: usize) -> Heard
-    requires { ⌜ Opens opened × (length (now values) ≡ capacityAll (opened .fields)) × (i < opened .fields .channels) × (m < sizeOf (opened .fields) i) ⌝ }
-    ensures { λ r. ⌜ r ≡ hearIn (opened .fields) (number .0) i m (channelPart (opened .fields) i (now (values .entry))) ⌝ }
-{
-    let cuts = opened.cuts;
-    let a = cuts[i] as usize;
-    let z = cuts[i + 1] as usize;
-    hear_channel(&values[a..z], opened, i, number, m)
-}
-
-fn survey_part(values: &[f32], opened: Opened, number: FrameNumber, i: usize) -> Link
+// A channel's part of gathered values.
+fn part(values: &[f32], opened: Opened, i: usize) -> &[f32]
     requires { ⌜ Opens opened × (length (now values) ≡ capacityAll (opened .fields)) × (i < opened .fields .channels) ⌝ }
-    ensures { λ r. ⌜ r ≡ surveyIn (opened .fields) (number .0) i (channelPart (opened .fields) i (now (values .entry))) ⌝ }
+    ensures { λ r. ⌜ (now r ≡ channelPart (opened .fields) i (now (values .entry))) × (length (now r) ≡ shareOf (opened .fields) i) ⌝ }
 {
     let cuts = opened.cuts;
     let a = cuts[i] as usize;
     let z = cuts[i + 1] as usize;
-    survey_channel(&values[a..z], opened, i, number)
+    &values[a..z]
 }
 
 fn find(values: &[f32], opened: Opened, number: FrameNumber, wanted: Wanted) -> Reception
@@ -72,12 +64,14 @@ fn find(values: &[f32], opened: Opened, number: FrameNumber, wanted: Wanted) -> 
 {
     match wanted {
         Wanted::Bit(trch, bit) => {
-            let heard = hear_part(values, opened, number, trch.index(), bit.index());
+            let i = trch.index();
+            let heard = hear_channel(part(values, opened, i), opened, i, number, bit.index());
             let link = Link::new();
             Reception { heard, link }
         }
         Wanted::Channel(trch) => {
-            let link = survey_part(values, opened, number, trch.index());
+            let i = trch.index();
+            let link = survey_channel(part(values, opened, i), opened, i, number);
             Reception {
                 heard: Heard::Nothing,
                 link,
@@ -110,7 +104,7 @@ fn answer(
     }
 }
 
-// The rooms are for values that are interleaved still, and for gathered ones.
+// The rooms are for values that are interleaved still, and for gathered ones; a frame takes their first part.
 fn receive_within(
     frame: &[f32],
     opened: Opened,
@@ -120,11 +114,12 @@ fn receive_within(
     values: &mut [f32],
     joined: &mut [f32],
 ) -> Reception
-    requires { ⌜ Opens opened × (length (now frame) ≡ capacityAll (opened .fields)) × (length (now room) ≡ capacityAll (opened .fields)) × (length (now values) ≡ capacityAll (opened .fields)) × Askable (opened .fields) asked (length (now joined)) ⌝ }
+    requires { ⌜ Opens opened × (length (now frame) ≡ capacityAll (opened .fields)) × Askable (opened .fields) asked (length (now joined)) × (length (now frame) ≤ length (now room)) × (length (now frame) ≤ length (now values)) ⌝ }
     ensures { λ r. ⌜ (r ≡ receptionOf (opened .fields) (number .0) (gathered nan (opened .fields) (now (frame .entry))) asked) × (now (joined .exit) ≡ receivedInto (opened .fields) (number .0) (gathered nan (opened .fields) (now (frame .entry))) asked (now (joined .entry))) ⌝ }
 {
-    gather_values(frame, opened.fields, room, values);
-    answer(values, opened, number, asked, joined)
+    let n = frame.len();
+    gather_values(frame, opened.fields, &mut room[..n], &mut values[..n]);
+    answer(&values[..n], opened, number, asked, joined)
 }
 
 fn receive_small(
@@ -139,16 +134,7 @@ fn receive_small(
 {
     let mut room = [1.0f32; SMALL];
     let mut values = [1.0f32; SMALL];
-    let n = frame.len();
-    receive_within(
-        frame,
-        opened,
-        number,
-        asked,
-        &mut room[..n],
-        &mut values[..n],
-        joined,
-    )
+    receive_within(frame, opened, number, asked, &mut room, &mut values, joined)
 }
 
 fn receive_middle(
@@ -163,16 +149,7 @@ fn receive_middle(
 {
     let mut room = [1.0f32; MIDDLE];
     let mut values = [1.0f32; MIDDLE];
-    let n = frame.len();
-    receive_within(
-        frame,
-        opened,
-        number,
-        asked,
-        &mut room[..n],
-        &mut values[..n],
-        joined,
-    )
+    receive_within(frame, opened, number, asked, &mut room, &mut values, joined)
 }
 
 fn receive_large(
@@ -187,16 +164,7 @@ fn receive_large(
 {
     let mut room = [1.0f32; LARGE];
     let mut values = [1.0f32; LARGE];
-    let n = frame.len();
-    receive_within(
-        frame,
-        opened,
-        number,
-        asked,
-        &mut room[..n],
-        &mut values[..n],
-        joined,
-    )
+    receive_within(frame, opened, number, asked, &mut room, &mut values, joined)
 }
 
 fn receive_whole(
@@ -206,21 +174,48 @@ fn receive_whole(
     asked: Asked,
     joined: &mut [f32],
 ) -> Reception
-    requires { ⌜ Opens opened × (length (now frame) ≡ capacityAll (opened .fields)) × Askable (opened .fields) asked (length (now joined)) ⌝ }
+    requires { ⌜ Opens opened × (length (now frame) ≡ capacityAll (opened .fields)) × Askable (opened .fields) asked (length (now joined)) × (length (now frame) ≤ mostBits) ⌝ }
     ensures { λ r. ⌜ (r ≡ receptionOf (opened .fields) (number .0) (gathered nan (opened .fields) (now (frame .entry))) asked) × (now (joined .exit) ≡ receivedInto (opened .fields) (number .0) (gathered nan (opened .fields) (now (frame .entry))) asked (now (joined .entry))) ⌝ }
 {
     let mut room = [1.0f32; MOST_BITS as usize];
     let mut values = [1.0f32; MOST_BITS as usize];
-    let n = frame.len();
-    receive_within(
-        frame,
-        opened,
-        number,
-        asked,
-        &mut room[..n],
-        &mut values[..n],
-        joined,
-    )
+    receive_within(frame, opened, number, asked, &mut room, &mut values, joined)
+}
+
+// Of a frame of at most MIDDLE places. The compiler leaves this function and the next apart, since each has two callers and is not small: with the rooms
+// of all sizes in one function the smallest frame would touch the largest one's stack (docs/SPEED.md).
+fn receive_near(
+    frame: &[f32],
+    opened: Opened,
+    number: FrameNumber,
+    asked: Asked,
+    joined: &mut [f32],
+) -> Reception
+    requires { ⌜ Opens opened × (length (now frame) ≡ capacityAll (opened .fields)) × Askable (opened .fields) asked (length (now joined)) × (length (now frame) ≤ middleFrame) ⌝ }
+    ensures { λ r. ⌜ (r ≡ receptionOf (opened .fields) (number .0) (gathered nan (opened .fields) (now (frame .entry))) asked) × (now (joined .exit) ≡ receivedInto (opened .fields) (number .0) (gathered nan (opened .fields) (now (frame .entry))) asked (now (joined .entry))) ⌝ }
+{
+    if frame.len() <= SMALL {
+        receive_small(frame, opened, number, asked, joined)
+    } else {
+        receive_middle(frame, opened, number, asked, joined)
+    }
+}
+
+fn receive_far(
+    frame: &[f32],
+    opened: Opened,
+    number: FrameNumber,
+    asked: Asked,
+    joined: &mut [f32],
+) -> Reception
+    requires { ⌜ Opens opened × (length (now frame) ≡ capacityAll (opened .fields)) × Askable (opened .fields) asked (length (now joined)) ⌝ }
+    ensures { λ r. ⌜ (r ≡ receptionOf (opened .fields) (number .0) (gathered nan (opened .fields) (now (frame .entry))) asked) × (now (joined .exit) ≡ receivedInto (opened .fields) (number .0) (gathered nan (opened .fields) (now (frame .entry))) asked (now (joined .entry))) ⌝ }
+{
+    if frame.len() <= LARGE {
+        receive_large(frame, opened, number, asked, joined)
+    } else {
+        receive_whole(frame, opened, number, asked, joined)
+    }
 }
 
 // What was asked of a received frame.
@@ -234,13 +229,21 @@ pub fn receive(
     requires { ⌜ Opens opened × (length (now frame) ≡ capacityAll (opened .fields)) × Askable (opened .fields) asked (length (now joined)) ⌝ }
     ensures { λ r. ⌜ (r ≡ receptionOf (opened .fields) (number .0) (gathered nan (opened .fields) (now (frame .entry))) asked) × (now (joined .exit) ≡ receivedInto (opened .fields) (number .0) (gathered nan (opened .fields) (now (frame .entry))) asked (now (joined .entry))) ⌝ }
 {
-    if frame.len() <= SMALL {
-        receive_small(frame, opened, number, asked, joined)
-    } else if frame.len() <= MIDDLE {
-        receive_middle(frame, opened, number, asked, joined)
-    } else if frame.len() <= LARGE {
-        receive_large(frame, opened, number, asked, joined)
+    if frame.len() <= MIDDLE {
+        receive_near(frame, opened, number, asked, joined)
     } else {
-        receive_whole(frame, opened, number, asked, joined)
+        receive_far(frame, opened, number, asked, joined)
+    }
+}
+
+// Every channel's segment of a received frame.
+pub fn receive_all(frame: &[f32], opened: Opened, number: FrameNumber, joined: &mut [f32])
+    requires { ⌜ Opens opened × (length (now frame) ≡ capacityAll (opened .fields)) × (length (now joined) ≡ equalisedAll (opened .fields)) ⌝ }
+    ensures { λ _. ⌜ now (joined .exit) ≡ takenBack (opened .fields) (number .0) (now (frame .entry)) (now (joined .entry)) ⌝ }
+{
+    if frame.len() <= MIDDLE {
+        receive_near(frame, opened, number, Asked::All, joined);
+    } else {
+        receive_far(frame, opened, number, Asked::All, joined);
     }
 }

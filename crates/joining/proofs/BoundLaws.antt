@@ -19,6 +19,7 @@ use Rattle.sheet.specs.Counts.{mostBits}
 use Rattle.joining.specs.Joining.{sumOf, joinOf, valueOf}
 use Rattle.joining.specs.Range.{inRange}
 use Rattle.joining.specs.Whole.{Under}
+use Rattle.joining.proofs.MadeLaws.{join-value}
 
 -- ---- a rounded value by its sign
 
@@ -182,9 +183,7 @@ fold-under (x ∷ xs) a k u h l =
 pub join-under : (xs : List Float) → NoneFails inRange xs → length xs ≤ mostBits → Under (valueOf (joinOf xs)) (length xs * 65536)
 unfolding joinOf valueOf
 join-under [] h l = omega arith
-join-under (x ∷ []) h l = range-under x (none-first inRange x [] h)
-join-under (x ∷ (y ∷ ys)) h l =
-    let e : 1 + suc (length ys) ≡ suc (suc (length ys)) = omega arith in
-    let r = range-under x (none-first inRange x (y ∷ ys) h) in
-    subst (λ (n : ℕ). Under (sumOf x (y ∷ ys)) (n * 65536)) e
-    (fold-under (y ∷ ys) x 1 r (none-rest inRange x (y ∷ ys) h) (omega arith))
+join-under (x ∷ xs) h l =
+    let e : 1 + length xs ≡ suc (length xs) = omega arith in
+    let r = range-under x (none-first inRange x xs h) in
+    rw (join-value x xs, ← e) (fold-under xs x 1 r (none-rest inRange x xs h) (omega arith))

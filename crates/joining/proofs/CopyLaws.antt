@@ -18,6 +18,7 @@ use Rattle.pattern.proofs.MatchedLaws.{sent-all, sent-more}
 use Rattle.pattern.proofs.SourceLaws.{sent-up}
 use Rattle.joining.specs.Joining.{sumOf, joinOf, valueOf, homeOf}
 use Rattle.joining.specs.Whole.{soft, counted}
+use Rattle.joining.proofs.MadeLaws.{join-value}
 use Rattle.joining.proofs.HomeLaws.{home-matched}
 use Rattle.joining.proofs.WholeLaws.{add-is, same-sum}
 
@@ -49,12 +50,12 @@ one-round false = refl
 one-round true = refl
 
 ones : (s : Bool) (c : ℕ) → suc c ≤ mostBits → valueOf (joinOf (table (λ i. one s) 0 (suc c))) ≡ round binary32 s (suc c) 1
-unfolding table joinOf valueOf
-ones s zero h = one-round s
-ones s (suc c) h =
-    let e : 1 + suc c ≡ suc (suc c) = omega arith in
-    ap (λ (v : Float). sumOf v (table (λ i. one s) 1 (suc c))) (one-round s)
-    ∙ ones-from s 1 (suc c) 1 (omega arith)
+unfolding table
+ones s c h =
+    let e : 1 + c ≡ suc c = omega arith in
+    join-value (one s) (table (λ i. one s) 1 c)
+    ∙ ap (λ (v : Float). sumOf v (table (λ i. one s) 1 c)) (one-round s)
+    ∙ ones-from s 1 c 1 (omega arith)
     ∙ ap (λ (k : ℕ). round binary32 s k 1) e
 
 -- plus or minus the number of copies, and +0.0 of none

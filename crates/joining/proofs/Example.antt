@@ -7,7 +7,7 @@ use lib.IntN.{pos, negsuc}
 use lib.Ieee.{Float, fin, span, climb, size, odd, units, round, sum, add, lt}
 use Rattle.pattern.specs.Pattern.{again, grown, sharedFrom, shared}
 use Rattle.joining.specs.declared.Heard.the-variants.{Nothing, Once, Joined}
-use Rattle.joining.specs.Joining.{joinOf, plusZero, valueOf, heardOf, homeOf}
+use Rattle.joining.specs.Joining.{onceOf, joinedOf, joinOf, plusZero, valueOf, heardOf, homeOf}
 use Rattle.joining.proofs.ZeroLaws.{minusZero}
 use Rattle.joining.specs.Linked.{magnitudeOf, magnitudes, punctures, chosen, linkOf}
 
@@ -36,18 +36,18 @@ wider = fin false 8388609 (pos 1)
 -- sent are 1,1,2,3,4,4,5,6: the first and the fourth bit are joined, and a lone -0.0 stays
 pub repeated-home : heardOf (pos 2) 6 1 (one ∷ twoHalf ∷ minusZero ∷ three ∷ minusZero ∷ minusZero ∷ one ∷ three ∷ [])
     ≡ Joined threeHalf 2 ∷ Once minusZero ∷ Once three ∷ Joined minusZero 2 ∷ Once one ∷ Once three ∷ []
-unfolding trailingZeros span climb size odd units round sum add again grown sharedFrom shared joinOf heardOf
+unfolding trailingZeros span climb size odd units round sum add again grown sharedFrom shared onceOf joinedOf joinOf heardOf
 repeated-home = refl
 
 -- bits 1 and 4 are dropped
 pub punctured-home : homeOf (negsuc 1) 6 1 (one ∷ minusZero ∷ twoHalf ∷ three ∷ [])
     ≡ plusZero ∷ one ∷ minusZero ∷ plusZero ∷ twoHalf ∷ three ∷ []
-unfolding again grown sharedFrom shared joinOf valueOf heardOf homeOf
+unfolding again grown sharedFrom shared onceOf joinedOf joinOf valueOf heardOf homeOf
 punctured-home = refl
 
 -- one bit sent three times: 2^24 + 1 is rounded to 2^24, twice; 1 + 1 + 2^24 is exact
 pub order-home : (homeOf (pos 2) 1 1 (wide ∷ one ∷ one ∷ []) ≡ wide ∷ []) × (homeOf (pos 2) 1 1 (one ∷ one ∷ wide ∷ []) ≡ wider ∷ [])
-unfolding trailingZeros span climb size odd units round sum add again grown sharedFrom shared joinOf valueOf heardOf homeOf
+unfolding trailingZeros span climb size odd units round sum add again grown sharedFrom shared onceOf joinedOf joinOf valueOf heardOf homeOf
 order-home = (refl, refl)
 
 -- the record of 3.5, 1, -3 and two bits that were not heard; that of -0.0, whose magnitude is +0.0, and 1; and that of nothing heard

@@ -16,10 +16,11 @@ use Rattle.laws.proofs.FirstFailLaws.{none-first, none-rest, none-cons, none-ta
 use Rattle.sheet.specs.Counts.{mostBits}
 use Rattle.pattern.specs.Pattern.{copiesAt, after, sharedFrom, negative, shared}
 use Rattle.joining.specs.declared.Heard.{Heard}
-use Rattle.joining.specs.Joining.{sumOf, joinOf, valueOf, heardOf}
+use Rattle.joining.specs.Joining.{joinOf, valueOf, heardOf}
 use Rattle.joining.specs.Range.{inRange}
 use Rattle.joining.specs.Whole.{Under}
 use Rattle.joining.specs.Linked.{magnitudeOf, magnitudes, lower, higher, chosen, linkOf}
+use Rattle.joining.proofs.MadeLaws.{join-voice}
 use Rattle.joining.proofs.BoundLaws.{join-under}
 
 -- ---- the best of a list, by a test that says which of two is better
@@ -141,12 +142,11 @@ plain-magnitude (fin s (suc m) e) n u = refl
 
 plain-more : (xs : List Float) (hs : List Heard) → NoneFails inRange xs → length xs ≤ mostBits → NoneFails plain (magnitudes hs)
     → NoneFails plain (magnitudes (joinOf xs ∷ hs))
-unfolding joinOf valueOf magnitudes
-plain-more [] hs h l k = k
-plain-more (x ∷ []) hs h l k = none-cons plain (magnitudeOf x) (magnitudes hs) (plain-magnitude x 65536 (join-under (x ∷ []) h l)) k
-plain-more (x ∷ (y ∷ ys)) hs h l k =
-    let v = sumOf x (y ∷ ys) in
-    none-cons plain (magnitudeOf v) (magnitudes hs) (plain-magnitude v (length (x ∷ (y ∷ ys)) * 65536) (join-under (x ∷ (y ∷ ys)) h l)) k
+plain-more [] hs h l k = unfold joinOf magnitudes in k
+plain-more (x ∷ xs) hs h l k =
+    let v = valueOf (joinOf (x ∷ xs)) in
+    rw (join-voice x xs .magnitude hs)
+    (none-cons plain (magnitudeOf v) (magnitudes hs) (plain-magnitude v (length (x ∷ xs) * 65536) (join-under (x ∷ xs) h l)) k)
 
 plain-from : (less : Bool) (P D e n : ℕ) (vs : List Float) → NoneFails inRange vs → length vs ≤ mostBits
     → NoneFails plain (magnitudes (map joinOf (sharedFrom less P D e n vs)))

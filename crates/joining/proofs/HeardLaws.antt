@@ -21,22 +21,17 @@ use Rattle.joining.specs.declared.Heard.{Heard}
 use Rattle.joining.specs.declared.Heard.the-variants.{Nothing}
 use Rattle.joining.specs.Joining.{joinOf, countOf, heardOf}
 use Rattle.joining.specs.Linked.{punctures}
+use Rattle.joining.proofs.MadeLaws.{join-count, join-voice}
 use Rattle.joining.proofs.HomeLaws.{heard-shared}
 
 -- ---- the copies of one bit
-
-pub count-join : (xs : List Float) → countOf (joinOf xs) ≡ length xs
-unfolding joinOf countOf
-count-join [] = refl
-count-join (x ∷ []) = refl
-count-join (x ∷ (y ∷ ys)) = refl
 
 pub heard-count : (d : ℤ) (N e j : ℕ) (vs : List Float) → Rates d N (length vs) e → j < N
     → countOf (getD (heardOf d N e vs) j Nothing) ≡ copiesOf d N e j
 heard-count d N e j vs r h =
     let last = rises (sentBefore d N e) N (λ k l. sent-up d N (length vs) e k r) (suc j) N h (omega arith) in
     ap countOf (heard-shared d N e j vs h)
-    ∙ count-join (getD (shared d N e vs) j [])
+    ∙ join-count (getD (shared d N e vs) j [])
     ∙ ap length (shared-at d N (length vs) e j vs r h)
     ∙ length-take-le (copiesOf d N e j) (drop (sentBefore d N e j) vs)
     (rw length-drop (omega (arith, last, sent-all d N (length vs) e r, sent-more d N (length vs) e j r)))
@@ -51,14 +46,9 @@ abbrev unheard : Bool → ℕ → ℕ → ℕ → ℕ → List Float → ℕ
 unheard less P D e n vs = punctures (map joinOf (sharedFrom less P D e n vs))
 
 heard-first : (c : ℕ) (vs : List Float) (hs : List Heard) → 0 < c → c ≤ length vs → punctures (joinOf (take c vs) ∷ hs) ≡ punctures hs
-unfolding joinOf punctures
 heard-first zero vs hs h k = absurd (omega arith)
 heard-first (suc c) [] hs h k = absurd (omega arith)
-heard-first (suc c) (v ∷ vs) hs h k = go (take c vs)
-  where
-    go : (xs : List Float) → punctures (joinOf (v ∷ xs) ∷ hs) ≡ punctures hs
-    go [] = unfold joinOf punctures in refl
-    go (x ∷ xs) = unfold joinOf punctures in refl
+heard-first (suc c) (v ∷ vs) hs h k = join-voice v (take c vs) .counts hs
 
 not-first : (c : ℕ) (vs : List Float) (hs : List Heard) → c ≡ 0 → punctures (joinOf (take c vs) ∷ hs) ≡ punctures hs + 1
 unfolding joinOf punctures

@@ -18,8 +18,8 @@ use Rattle.pattern.proofs.MatchedLaws.{sent-all, sent-more, matched-map, length
 use Rattle.pattern.proofs.SourceLaws.{sent-up}
 use Rattle.pattern.proofs.SegmentLaws.{shared-by}
 use Rattle.joining.specs.declared.Heard.{Heard}
-use Rattle.joining.specs.declared.Heard.the-variants.{Nothing, Once}
-use Rattle.joining.specs.Joining.{joinOf, valueOf, heardOf, homeOf}
+use Rattle.joining.specs.declared.Heard.the-variants.{Nothing}
+use Rattle.joining.specs.Joining.{onceOf, joinOf, valueOf, heardOf, homeOf}
 
 -- the values that bits get by their shares of the values sent
 abbrev pub homes : List (List Float) → List Float
@@ -84,25 +84,20 @@ pub home-by : (less : Bool) (m N e : ℕ) (vs : List Float) → 0 < m
 unfolding homeOf
 home-by less m N e vs h = ap (map valueOf) (heard-by less m N e vs h)
 
--- d = 0: each bit is heard once, and the values are as they were
-each-once : (P e n : ℕ) (vs : List Float) → length vs ≡ n → map joinOf (sharedFrom false P 0 e n vs) ≡ map Once vs
+-- d = 0: each bit is heard once
+each-once : (P e n : ℕ) (vs : List Float) → length vs ≡ n → map joinOf (sharedFrom false P 0 e n vs) ≡ map onceOf vs
 unfolding again grown sharedFrom joinOf
 each-once P e zero [] h = refl
 each-once P e zero (v ∷ vs) h = absurd (omega arith)
 each-once P e (suc n) [] h = absurd (omega arith)
-each-once P e (suc n) (v ∷ vs) h = ap (λ (l : List Heard). Once v ∷ l) (each-once P (after false P 0 e) n vs (omega arith))
+each-once P e (suc n) (v ∷ vs) h = ap (λ (l : List Heard). onceOf v ∷ l) (each-once P (after false P 0 e) n vs (omega arith))
 
-pub heard-same : (less : Bool) (m N e : ℕ) (vs : List Float) → m ≡ 0 → length vs ≡ N → heardOf (signedBy less m) N e vs ≡ map Once vs
+pub heard-same : (less : Bool) (m N e : ℕ) (vs : List Float) → m ≡ 0 → length vs ≡ N → heardOf (signedBy less m) N e vs ≡ map onceOf vs
 unfolding shared heardOf
 heard-same false zero N e vs z h = each-once (2 * N) e N vs h
 heard-same true zero N e vs z h = each-once (2 * N) e N vs h
 heard-same less (suc a) N e vs z h = absurd (omega arith)
 
-once-home : (vs : List Float) → map valueOf (map Once vs) ≡ vs
-unfolding valueOf
-once-home [] = refl
-once-home (v ∷ vs) = ap (λ (l : List Float). v ∷ l) (once-home vs)
-
-pub home-same : (less : Bool) (m N e : ℕ) (vs : List Float) → m ≡ 0 → length vs ≡ N → homeOf (signedBy less m) N e vs ≡ vs
+pub home-same : (less : Bool) (m N e : ℕ) (vs : List Float) → m ≡ 0 → length vs ≡ N → homeOf (signedBy less m) N e vs ≡ map valueOf (map onceOf vs)
 unfolding homeOf
-home-same less m N e vs z h = ap (map valueOf) (heard-same less m N e vs z h) ∙ once-home vs
+home-same less m N e vs z h = ap (map valueOf) (heard-same less m N e vs z h)

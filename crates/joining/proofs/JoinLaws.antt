@@ -7,8 +7,8 @@ use native.Mathlib.Omega.{arith}
 use lib.ListN.{length, take, drop, getD, length-drop}
 use lib.Seq.{drop-cons, length-take-le}
 use lib.Ieee.{Float, nan, binary32, add}
-use Rattle.joining.specs.declared.Heard.the-variants.{Nothing, Once, Joined}
-use Rattle.joining.specs.Joining.{sumOf, joinOf}
+use Rattle.joining.specs.declared.Heard.the-variants.{Nothing}
+use Rattle.joining.specs.Joining.{sumOf, onceOf, joinedOf, joinOf}
 
 -- a, and the values from i up to `end` added to it in order
 abbrev pub summed : List Float → Float → ℕ → ℕ → Float
@@ -32,11 +32,11 @@ module _ (l : List Float) where
   unfolding joinOf
   join-none i n h = rw h
 
-  pub join-one : (i n : ℕ) → n ≡ 1 → i < length l → joinOf (take n (drop i l)) ≡ Once (getD l i nan)
+  pub join-one : (i n : ℕ) → n ≡ 1 → i < length l → joinOf (take n (drop i l)) ≡ onceOf (getD l i nan)
   unfolding joinOf
   join-one i n h k = rw h (ap joinOf (part-cons i 0 k))
 
-  pub join-many : (i n : ℕ) → 1 < n → i + n ≤ length l → joinOf (take n (drop i l)) ≡ Joined (summed l (getD l i nan) (i + 1) (i + n)) n
+  pub join-many : (i n : ℕ) → 1 < n → i + n ≤ length l → joinOf (take n (drop i l)) ≡ joinedOf (summed l (getD l i nan) (i + 1) (i + n)) n
   join-many i n h k =
       let m = i + n - (i + 1) in
       let nm : n ≡ suc m = omega arith in
@@ -45,8 +45,8 @@ module _ (l : List Float) where
       ap (λ (j : ℕ). joinOf (take j (drop i l))) nm
       ∙ ap joinOf (part-cons i m (omega arith))
       ∙ many (getD l i nan) t (omega arith)
-      ∙ ap (λ (j : ℕ). Joined (sumOf (getD l i nan) t) j) (ap suc len ∙ sym nm)
+      ∙ ap (λ (j : ℕ). joinedOf (sumOf (getD l i nan) t) j) (ap suc len ∙ sym nm)
     where
-      many : (x : Float) (ys : List Float) → 0 < length ys → joinOf (x ∷ ys) ≡ Joined (sumOf x ys) (suc (length ys))
+      many : (x : Float) (ys : List Float) → 0 < length ys → joinOf (x ∷ ys) ≡ joinedOf (sumOf x ys) (suc (length ys))
       many x [] h = absurd (omega arith)
       many x (y ∷ ys) h = unfold joinOf in refl

@@ -17,6 +17,7 @@ use Rattle.joining.specs.Linked.{magnitudeOf, withMagnitude, withValue, 
 use Rattle.joining.proofs.ExtremeLaws.{upward}
 use Rattle.joining.proofs.MagnitudeLaws.{same-value}
 use Rattle.joining.proofs.LinkLaws.{first-value, Surveying, survey-turn}
+use Rattle.joining.proofs.MadeLaws.{join-voice}
 
 -- ---- magnitudes that are not NaN, and their order
 
@@ -224,10 +225,8 @@ sound-magnitude (fin true (suc m) e) t = inr (is-true _ t)
 sound-magnitude (fin false (suc m) e) t = inr (is-true _ t)
 
 pub voiced : {h : Heard} (xs : List Float) → h ≡ joinOf xs → 0 < length xs → T (fits binary32 (valueOf h)) → Voiced h
-unfolding withHeard valueOf joinOf
 voiced [] q k t = absurd (omega arith)
-voiced {h} (x ∷ []) q k t = record { said = λ l n. rw q refl; sound = sound-magnitude (valueOf h) t }
-voiced {h} (x ∷ (y ∷ ys)) q k t = record { said = λ l n. rw q refl; sound = sound-magnitude (valueOf h) t }
+voiced {h} (x ∷ xs) q k t = record { said = rw q (join-voice x xs .said); sound = sound-magnitude (valueOf h) t }
 
 -- a record that has a value, which says how its values stand, and no punctured bit
 abbrev Lane : Bool → Link → Type 0

@@ -1,3 +1,4 @@
+pub mod MadeLaws
 pub mod JoinLaws
 pub mod HomeLaws
 pub mod PlaceLaws

@@ -14,25 +14,27 @@ use Rattle.pattern.specs.Pattern.{copiesAt, after, copiesFrom, sharedFrom, Segm
 use Rattle.pattern.proofs.WalkLaws.{first-apart}
 use Rattle.pattern.proofs.SegmentLaws.{sized-same, sized-copies}
 use Rattle.joining.specs.declared.Heard.{Heard}
-use Rattle.joining.specs.declared.Heard.the-variants.{Once}
 use Rattle.joining.specs.declared.linking.Link.{Link}
-use Rattle.joining.specs.Joining.{joinOf, heardOf}
+use Rattle.joining.specs.Joining.{onceOf, joinOf, valueOf, heardOf}
 use Rattle.joining.specs.Linked.{magnitudeOf, magnitudes, punctures, linkOf}
+use Rattle.joining.proofs.MadeLaws.{once-voice}
 use Rattle.joining.proofs.HomeLaws.{heard-by, heard-same}
 use Rattle.joining.proofs.HeardLaws.{droppedBy, unheard-all}
 use Rattle.joining.proofs.LinkLaws.{made}
 
 -- a bit of one copy, or of none
-once-first : (c : ℕ) (vs : List Float) (hs : List Heard) → c ≤ 1 → c ≤ length vs → magnitudes hs ≡ magnitudes (map Once (drop c vs))
-    → magnitudes (joinOf (take c vs) ∷ hs) ≡ magnitudes (map Once vs)
+once-first : (c : ℕ) (vs : List Float) (hs : List Heard) → c ≤ 1 → c ≤ length vs → magnitudes hs ≡ magnitudes (map onceOf (drop c vs))
+    → magnitudes (joinOf (take c vs) ∷ hs) ≡ magnitudes (map onceOf vs)
 unfolding joinOf magnitudes
 once-first zero vs hs h k q = q
 once-first (suc zero) [] hs h k q = absurd (omega arith)
-once-first (suc zero) (v ∷ vs) hs h k q = ap (λ (l : List Float). magnitudeOf v ∷ l) q
+once-first (suc zero) (v ∷ vs) hs h k q =
+    let o = once-voice v in
+    o .magnitude hs ∙ ap (λ (l : List Float). magnitudeOf (valueOf (onceOf v)) ∷ l) q ∙ sym (o .magnitude (map onceOf vs))
 once-first (suc (suc c)) vs hs h k q = absurd (omega arith)
 
 once-from : (P D e n : ℕ) (vs : List Float) → sumTo (copiesFrom true P D e) n ≡ length vs
-    → magnitudes (map joinOf (sharedFrom true P D e n vs)) ≡ magnitudes (map Once vs)
+    → magnitudes (map joinOf (sharedFrom true P D e n vs)) ≡ magnitudes (map onceOf vs)
 unfolding sumTo sharedFrom
 once-from P D e zero [] h = refl
 once-from P D e zero (v ∷ vs) h = absurd (omega arith)
@@ -43,11 +45,11 @@ once-from P D e (suc n) vs h =
     (once-from P D (after true P D e) n (drop c vs) (rw length-drop (omega arith)))
 
 module _ (less : Bool) (m N e : ℕ) (vs : List Float) (s : Segment less m N (length vs) e) (h : (less ≡ true) ⊎ (m ≡ 0)) where
-  once-magnitudes : magnitudes (heardOf (signedBy less m) N e vs) ≡ magnitudes (map Once vs)
+  once-magnitudes : magnitudes (heardOf (signedBy less m) N e vs) ≡ magnitudes (map onceOf vs)
   once-magnitudes = go less m s h
     where
       go : (less : Bool) (m : ℕ) → Segment less m N (length vs) e → (less ≡ true) ⊎ (m ≡ 0)
-          → magnitudes (heardOf (signedBy less m) N e vs) ≡ magnitudes (map Once vs)
+          → magnitudes (heardOf (signedBy less m) N e vs) ≡ magnitudes (map onceOf vs)
       go less zero s h = ap magnitudes (heard-same less 0 N e vs refl (sized-same less 0 N (length vs) e s refl))
       go true (suc a) s h =
           ap magnitudes (heard-by true (suc a) N e vs (zero-lt-suc a))
@@ -66,7 +68,7 @@ module _ (less : Bool) (m N e : ℕ) (vs : List Float) (s : Segment less m N (le
       go false (suc a) (inr z) = absurd (omega arith)
 
   -- l is the record of the values
-  pub link-once : {l : Link} → l ≡ linkOf (map Once vs)
+  pub link-once : {l : Link} → l ≡ linkOf (map onceOf vs)
       → _≡_ {A = Link} (record { least = l .least; greatest = l .greatest; punctured = m }) (linkOf (heardOf (signedBy less m) N e vs))
   unfolding linkOf
   link-once q =

@@ -22,6 +22,7 @@ use Rattle.matching.specs.Signed.{signedBy}
 use Rattle.matching.proofs.SignedLaws.{magnitude}
 use Rattle.joining.specs.Joining.{sumOf, joinOf, valueOf}
 use Rattle.joining.specs.Whole.{Whole, smallWhole, wholeOf, total}
+use Rattle.joining.proofs.MadeLaws.{join-value}
 
 -- ---- integers
 
@@ -164,10 +165,9 @@ sum-exact (x ∷ xs) a z k v b ws h =
 pub join-exact : (xs : List Float) → NoneFails smallWhole xs → length xs ≤ mostBits → Whole (valueOf (joinOf xs)) (total (map wholeOf xs))
 unfolding joinOf valueOf total
 join-exact [] ws h = record { sign = false; size = 0; value = (refl, refl); is = refl }
-join-exact (x ∷ []) ws h = rw +ℤ-idr (small-is x (none-first smallWhole x [] ws) .0)
-join-exact (x ∷ (y ∷ ys)) ws h =
-    let s = small-is x (none-first smallWhole x (y ∷ ys) ws) in
-    sum-exact (y ∷ ys) x (wholeOf x) 1 (s .0) (omega (arith, s .1)) (none-rest smallWhole x (y ∷ ys) ws) (omega arith)
+join-exact (x ∷ xs) ws h =
+    let s = small-is x (none-first smallWhole x xs ws) in
+    rw (join-value x xs) (sum-exact xs x (wholeOf x) 1 (s .0) (omega (arith, s .1)) (none-rest smallWhole x xs ws) (omega arith))
 
 -- a float is at most one whole number
 pub whole-one : (x : Float) (z w : ℤ) → Whole x z → Whole x w → z ≡ w

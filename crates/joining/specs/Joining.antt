@@ -13,11 +13,19 @@ use Rattle.joining.specs.declared.Heard.the-variants.{Nothing, Once, Joi
 abbrev pub sumOf : Float → List Float → Float
 sumOf a xs = foldl (add binary32) a xs
 
--- "A bit sent once keeps its value bit for bit": the sum starts from copy 0 itself, never from zero, which would turn a lone -0.0 into +0.0
+-- what is made of the value of a bit sent once: "A bit sent once keeps its value bit for bit."
+unfoldable pub onceOf : Float → Heard
+onceOf x = Once x
+
+-- and of the sum of n copies
+unfoldable pub joinedOf : Float → ℕ → Heard
+joinedOf s n = Joined s n
+
+-- the sum starts from copy 0 itself, never from zero, which would turn a lone -0.0 into +0.0
 unfoldable pub joinOf : List Float → Heard
 joinOf [] = Nothing
-joinOf (x ∷ []) = Once x
-joinOf (x ∷ (y ∷ ys)) = Joined (sumOf x (y ∷ ys)) (length (x ∷ (y ∷ ys)))
+joinOf (x ∷ []) = onceOf x
+joinOf (x ∷ (y ∷ ys)) = joinedOf (sumOf x (y ∷ ys)) (length (x ∷ (y ∷ ys)))
 
 abbrev pub plusZero : Float
 plusZero = fin false 0 (pos 0)

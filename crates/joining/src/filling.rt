@@ -1,21 +1,23 @@
 // A segment of joined values, from the values that were sent of it.
 ghost use mathlib.Core.Path.{_≡_};
+ghost use mathlib.Core.List.{map};
 ghost use Prim.Native.Nat.{_<_};
 ghost use lib.ListN.{length};
 ghost use Rattle.matching.specs.Signed.{signedBy};
 ghost use Rattle.pattern.specs.Pattern.{Segment};
-ghost use Rattle.joining.specs.Joining.{homeOf};
-use crate::Heard;
+ghost use Rattle.joining.specs.Joining.{onceOf, valueOf, homeOf};
+use crate::making::once;
+use crate::making::value;
 use crate::walking::hear_next;
 
-// d = 0: the values as they are.
+// d = 0: each bit gets what was heard once.
 fn copy_values(values: &[f32], segment: &mut [f32])
     requires { ⌜ length (now segment) ≡ length (now values) ⌝ }
-    ensures { λ _. ⌜ now (segment .exit) ≡ now (values .entry) ⌝ }
+    ensures { λ _. ⌜ now (segment .exit) ≡ map valueOf (map onceOf (now (values .entry))) ⌝ }
 {
     let mut i: usize = 0;
     while i < values.len() {
-        segment[i] = values[i];
+        segment[i] = value(once(values[i]));
         i += 1;
     }
 }
@@ -33,17 +35,7 @@ fn fill(values: &[f32], segment: &mut [f32], start: usize, less: bool, m: usize)
     while i < segment.len() {
         let t = hear_next(values, k, less, p, q, e);
         let h = t.heard;
-        match h {
-            Heard::Nothing => {
-                segment[i] = 0.0;
-            }
-            Heard::Once(x) => {
-                segment[i] = x;
-            }
-            Heard::Joined(x, _) => {
-                segment[i] = x;
-            }
-        }
+        segment[i] = value(h);
         e = t.e;
         k = t.next;
         i += 1;

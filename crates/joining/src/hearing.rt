@@ -8,8 +8,9 @@ ghost use Rattle.pattern.specs.Pattern.{shared, Segment};
 ghost use Rattle.pattern.specs.Closed.{sentBefore};
 ghost use Rattle.joining.specs.Joining.{joinOf};
 use crate::Heard;
+use crate::walking::hear_sent;
 
-// The copies of a bit stand at from, from + 1, ..: they are added in that order, from the first of them on.
+// The copies of a bit stand at from, from + 1, ..: they are heard as by an e that goes from 1 by 1.
 pub fn hear_at(values: &[f32], from: usize, copies: usize) -> Heard
     requires { ⌜ from + copies ≤ length (now values) ⌝ }
     ensures { λ r. ⌜ r ≡ joinOf (take copies (drop from (now (values .entry)))) ⌝ }
@@ -17,17 +18,8 @@ pub fn hear_at(values: &[f32], from: usize, copies: usize) -> Heard
     if copies == 0 {
         return Heard::Nothing;
     }
-    let mut sum = values[from];
-    if copies == 1 {
-        return Heard::Once(sum);
-    }
-    let end = from + copies;
-    let mut i = from + 1;
-    while i < end {
-        sum = sum + values[i];
-        i += 1;
-    }
-    Heard::Joined(sum, copies)
+    let t = hear_sent(values, from, 1, copies - 1, 1);
+    t.heard
 }
 
 // How many of the v values sent of a segment of n bits belong to the bits before `bit`, without a walk.

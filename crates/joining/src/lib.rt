@@ -3,6 +3,7 @@ pub mod checking;
 pub mod filling;
 pub mod hearing;
 pub mod linking;
+mod making;
 mod walking;
 
 // What was heard of one bit: nothing where it was punctured, its one value, or the joined value of its copies and their number.

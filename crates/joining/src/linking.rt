@@ -6,10 +6,10 @@ ghost use Prim.Native.Nat.{_+_, _^_, _<_};
 ghost use lib.ListN.{length};
 ghost use Rattle.matching.specs.Signed.{signedBy};
 ghost use Rattle.pattern.specs.Pattern.{Segment};
-ghost use Rattle.joining.specs.declared.Heard.the-variants.{Once};
-ghost use Rattle.joining.specs.Joining.{heardOf};
+ghost use Rattle.joining.specs.Joining.{onceOf, heardOf};
 ghost use Rattle.joining.specs.Linked.{magnitudeOf, linkOf, withValue, withHeard, bothOf};
 use crate::Heard;
+use crate::making::once;
 use crate::walking::hear_sent;
 
 pub struct Link {
@@ -142,21 +142,21 @@ impl Lanes {
 
 // Each value was heard alone. The first is put in before the loop, so that the loop need not ask for it; two a turn save moves between registers.
 fn link_once(values: &[f32]) -> Link
-    ensures { λ r. ⌜ r ≡ linkOf (map Once (now (values .entry))) ⌝ }
+    ensures { λ r. ⌜ r ≡ linkOf (map onceOf (now (values .entry))) ⌝ }
 {
     let mut l = Link::new();
     if values.len() == 0 {
         return l;
     }
-    l = l.with(Heard::Once(values[0]), 0);
+    l = l.with(once(values[0]), 0);
     let mut i: usize = 1;
     while i + 1 < values.len() {
-        l = l.with(Heard::Once(values[i]), i);
-        l = l.with(Heard::Once(values[i + 1]), i + 1);
+        l = l.with(once(values[i]), i);
+        l = l.with(once(values[i + 1]), i + 1);
         i += 2;
     }
     if i < values.len() {
-        l = l.with(Heard::Once(values[i]), i);
+        l = l.with(once(values[i]), i);
     }
     l
 }

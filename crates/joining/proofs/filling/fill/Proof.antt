@@ -1,13 +1,11 @@
 use denote.Ref.{now}
-use mathlib.Core.Path.{sym, ap, _∙_}
-use mathlib.Core.Logic.{⊎-elim}
+use mathlib.Core.Path.{ap}
 use Prim.Native.Nat.{_-_}
 use native.Mathlib.Omega.{arith}
 use borrow.Author.Needs.{needs}
 use mathlib.Core.List.{List}
 use lib.ListN.{length, set}
-use lib.Ieee.{Float, ofBits}
-use Rattle.joining.specs.Joining.{valueOf}
+use lib.Ieee.{Float}
 use Rattle.joining.proofs.FillLaws.{Filling, fill-start, fill-turn, fill-end}
 use Rattle.joining.proofs.PlaceLaws.{place-room}
 use Rattle.joining.proofs.filling.fill.Statement.{statement}
@@ -34,34 +32,16 @@ loop-holds c =
 hear-next-requires : tie.Need-hear-next-requires Inv-loop μ-loop
 hear-next-requires c κs =
     let l = c .before .loop in
-    (l .inv .place .here, omega arith, omega arith, place-room (l .inv .place) (omega arith))
+    (l .inv .place .here, omega (arith, l .inv .place .few, l .inv .place .most), place-room (l .inv .place) (omega arith))
 
-enum-told : tie.Need-enum-told Inv-loop μ-loop
-enum-told c = search needs
+value-requires : tie.Need-value-requires Inv-loop μ-loop
+value-requires c κs = search needs
 
 mul-segment : tie.Need-mul-segment Inv-loop μ-loop
 mul-segment c = omega arith
 
 slice-write-segment : tie.Need-slice-write-segment Inv-loop μ-loop
 slice-write-segment c = omega arith
-
-enum-known-h : tie.Need-enum-known-h Inv-loop μ-loop
-enum-known-h c = search needs
-
-mul-segment-2 : tie.Need-mul-segment-2 Inv-loop μ-loop
-mul-segment-2 c = omega arith
-
-slice-write-segment-2 : tie.Need-slice-write-segment-2 Inv-loop μ-loop
-slice-write-segment-2 c = omega arith
-
-enum-known-h-2 : tie.Need-enum-known-h-2 Inv-loop μ-loop
-enum-known-h-2 c = search needs
-
-mul-segment-3 : tie.Need-mul-segment-3 Inv-loop μ-loop
-mul-segment-3 c = omega arith
-
-slice-write-segment-3 : tie.Need-slice-write-segment-3 Inv-loop μ-loop
-slice-write-segment-3 c = omega arith
 
 add-i : tie.Need-add-i Inv-loop μ-loop
 add-i c = omega arith
@@ -70,16 +50,11 @@ loop-less : tie.Need-loop-less Inv-loop μ-loop
 loop-less c = let l = c .before .before .before .loop in omega arith
 
 loop-again : tie.Need-loop-again Inv-loop μ-loop
-unfolding ofBits valueOf
 loop-again c =
     let l = c .before .before .before .loop in
     let t = c .before .hear-next .ensures in
     let put : Float → List Float = λ v. set (l .segment) (l .i) v in
-    fill-turn (l .inv) (omega arith) (t .0) (t .1) (t .2)
-    (⊎-elim
-    (λ w. w .2 ∙ ap put (sym (ap valueOf (w .1 .given .1))))
-    (λ u. ⊎-elim (λ w. w .3 ∙ ap put (sym (ap valueOf (w .1 .given .1)))) (λ w. w .3 ∙ ap put (sym (ap valueOf (w .1 .given .1)))) u)
-    (c .match .came))
+    fill-turn (l .inv) (omega arith) (t .0) (t .1) (t .2) (ap put (c .value .ensures))
 
 same-length : tie.Need-same-length Inv-loop μ-loop
 same-length c = c .before .loop .inv .todo .long
@@ -97,15 +72,9 @@ fill-spec =
     mul-q
     loop-holds
     hear-next-requires
-    enum-told
+    value-requires
     mul-segment
     slice-write-segment
-    enum-known-h
-    mul-segment-2
-    slice-write-segment-2
-    enum-known-h-2
-    mul-segment-3
-    slice-write-segment-3
     add-i
     loop-less
     loop-again

@@ -1,91 +1,40 @@
 use denote.Ref.{now}
-use mathlib.Core.Path.{_≡_, refl, sym, ap, _∙_}
-use Prim.Native.Nat.{_+_, _-_, _≤_, _<_}
+use mathlib.Core.Path.{_≡_, sym, subst}
+use mathlib.Core.Bool.{false, false≢true}
+use Prim.Native.Nat.{ℕ, suc, _-_, _<_}
 use native.Mathlib.Omega.{arith}
 use borrow.Author.Needs.{needs}
-use lib.ListN.{length, getD}
-use lib.Ieee.{Float, nan}
-use Rattle.joining.specs.declared.Heard.the-variants.{Joined}
-use Rattle.joining.proofs.JoinLaws.{summed, sum-turn, sum-end, join-none, join-one, join-many}
+use lib.ListN.{take, drop}
+use Rattle.pattern.specs.Pattern.{grown, Stands}
+use Rattle.pattern.proofs.CountLaws.{grown-bounds}
+use Rattle.joining.specs.Joining.{joinOf}
+use Rattle.joining.proofs.JoinLaws.{join-none}
 use Rattle.joining.proofs.hearing.hear_at.Statement.{statement}
 use Rattle.joining.proofs.hearing.hear_at.Tie as tie
 
--- what is added and what is still to be added make the sum
-abbrev Inv-loop : tie.InvT-loop
-Inv-loop values from copies sum₀ end i₀ sum i =
-    (i ≤ end) × (end ≡ from + copies) × (end ≤ length values) × (1 < copies)
-    × (summed values sum i end ≡ summed values (getD values from nan) (from + 1) end)
+-- an e that goes from 1 by 1 grows once for each copy after the first
+by-one : (q : ℕ) → Stands false 1 q 1
+by-one q = record { above = omega arith; top = omega arith; most = λ h. absurd (false≢true h) }
 
-abbrev μ-loop : tie.MeasureT-loop
-μ-loop values from copies sum₀ end i₀ sum i = end - i
+all-copies : (n : ℕ) → 0 < n → suc (grown false 1 (n - 1) 1) ≡ n
+all-copies n h = omega (arith, grown-bounds false 1 (n - 1) 1 (by-one (n - 1)))
 
-returns : tie.Need-returns Inv-loop μ-loop
-returns c = let a = c .before .args in sym (join-none (now (a .values)) (a .from) (a .copies) (c .if1 .taken))
+returns : tie.Need-returns
+returns c = let a = c .before .before .args in sym (join-none (now (a .values)) (a .from) (a .copies) (c .if1 .taken))
 
-mul-sum : tie.Need-mul-sum Inv-loop μ-loop
-mul-sum c = search needs
+sub-hear-sent : tie.Need-sub-hear-sent
+sub-hear-sent c = search needs
 
-shared-slice-read-sum : tie.Need-shared-slice-read-sum Inv-loop μ-loop
-shared-slice-read-sum c = omega arith
+hear-sent-requires : tie.Need-hear-sent-requires
+hear-sent-requires c κs =
+    let n = c .before .before .args .copies in
+    (by-one (n - 1), omega arith, omega (arith, all-copies n (omega arith)))
 
-returns-2 : tie.Need-returns-2 Inv-loop μ-loop
-returns-2 c = let a = c .before .before .before .args in sym (join-one (now (a .values)) (a .from) (a .copies) (c .if2 .taken) (omega arith))
-
-add-end : tie.Need-add-end Inv-loop μ-loop
-add-end c = omega arith
-
-add-i : tie.Need-add-i Inv-loop μ-loop
-add-i c = omega arith
-
-loop-holds : tie.Need-loop-holds Inv-loop μ-loop
-loop-holds c = (omega arith, refl, omega arith, omega arith, refl)
-
-mul-sum-2 : tie.Need-mul-sum-2 Inv-loop μ-loop
-mul-sum-2 c = search needs
-
-shared-slice-read-sum-2 : tie.Need-shared-slice-read-sum-2 Inv-loop μ-loop
-shared-slice-read-sum-2 c = omega arith
-
-add-i-2 : tie.Need-add-i-2 Inv-loop μ-loop
-add-i-2 c = omega arith
-
-loop-less : tie.Need-loop-less Inv-loop μ-loop
-loop-less c = omega arith
-
-loop-again : tie.Need-loop-again Inv-loop μ-loop
-loop-again c =
-    let l = c .before .before .loop in
-    let a = c .before .before .before .before .before .before .args in (
-      omega arith,
-      refl,
-      omega arith,
-      omega arith,
-      sym (sum-turn (now (a .values)) (l .i) (a .from + a .copies) (l .sum) (omega arith) (omega arith)) ∙ l .inv .4,
-    )
-
-returns-3 : tie.Need-returns-3 Inv-loop μ-loop
-returns-3 c =
-    let l = c .before .loop in
-    let a = c .before .before .before .before .before .args in
-    ap (λ (v : Float). Joined v (a .copies)) (sym (sum-end (now (a .values)) (l .i) (a .from + a .copies) (l .sum) (omega arith)) ∙ l .inv .4)
-    ∙ sym (join-many (now (a .values)) (a .from) (a .copies) (omega arith) (omega arith))
+returns-2 : tie.Need-returns-2
+returns-2 c =
+    let a = c .before .before .before .args in
+    subst (λ (n : ℕ). c .hear-sent .result .heard ≡ joinOf (take n (drop (a .from) (now (a .values)))))
+    (all-copies (a .copies) (omega arith)) (c .hear-sent .ensures .0)
 
 pub hear-at-spec : {M : Type 1} → statement M
-hear-at-spec =
-    tie.close
-    (tie.spec
-    Inv-loop
-    μ-loop
-    returns
-    mul-sum
-    shared-slice-read-sum
-    returns-2
-    add-end
-    add-i
-    loop-holds
-    mul-sum-2
-    shared-slice-read-sum-2
-    add-i-2
-    loop-less
-    loop-again
-    returns-3)
+hear-at-spec = tie.close (tie.spec returns sub-hear-sent hear-sent-requires returns-2)

@@ -3,7 +3,7 @@ use mathlib.Core.Path.{_≡_, refl, ap, _∙_, subst}
 use mathlib.Core.Bool.{false}
 use mathlib.Core.List.{List, [], _∷_, map}
 use mathlib.Core.Logic.{⊎-elim}
-use Prim.Native.Nat.{ℕ, _+_, _*_, _-_, _≤_, _<_}
+use Prim.Native.Nat.{ℕ, _+_, _*_, _-_, _^_, _≤_, _<_}
 use native.Mathlib.Omega.{arith}
 use borrow.Author.Needs.{needs}
 use lib.Dec.{T}
@@ -11,7 +11,6 @@ use lib.ListN.{length, take, drop, length-drop}
 use lib.Seq.{length-take-le}
 use lib.Ieee.{Float, binary32, fits}
 use Rattle.matching.specs.Signed.{signedBy}
-use Rattle.sheet.specs.Counts.{mostEncoded, mostBits}
 use Rattle.pattern.specs.Pattern.{copiesAt, after, sharedFrom, Stands}
 use Rattle.pattern.proofs.SegmentLaws.{begins}
 use Rattle.joining.specs.declared.Heard.{Heard}
@@ -53,8 +52,8 @@ InLanes m n vs all last a b c d e k i = Place false m n vs e k i × Dealt all a 
 
 -- what hear_sent asks for
 asks : {m n e k i : ℕ} {vs : List Float} → Place false m n vs e k i → i < n
-    → Stands false (2 * n) (2 * m) e × (2 * n ≤ 2 * mostEncoded) × (2 * m ≤ 2 * mostBits) × (k + copiesAt false (2 * n) (2 * m) e ≤ length vs)
-asks p b = (p .here, omega (arith, p .few), omega (arith, p .most), place-room p b)
+    → Stands false (2 * n) (2 * m) e × (2 * n + 2 * m < 2 ^ 64) × (k + copiesAt false (2 * n) (2 * m) e ≤ length vs)
+asks p b = (p .here, omega (arith, p .few, p .most), place-room p b)
 
 -- the four bits of a turn are there
 there : (i last n : ℕ) → i < last → last ≤ n - 3 → (i < n) × (i + 1 < n) × (i + 1 + 1 < n) × (i + 1 + 1 + 1 < n)
