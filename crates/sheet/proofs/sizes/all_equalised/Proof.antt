@@ -4,6 +4,7 @@ use Prim.Native.Nat.{_*_, _-_, _≤_}
 use lib.ListN.{getD}
 use Rattle.laws.specs.Sums.{sumTo}
 use Rattle.laws.proofs.SumLaws.{sum-more}
+use Rattle.sheet.specs.Counts.{mostFrames}
 use Rattle.sheet.specs.Sizes.{framesIn, segmentIn, equalisedOf}
 use borrow.Author.Needs.{needs}
 use Rattle.sheet.proofs.sizes.all_equalised.Statement.{statement}
@@ -11,7 +12,7 @@ use Rattle.sheet.proofs.sizes.all_equalised.Tie as tie
 
 abbrev Inv-loop : tie.InvT-loop
 Inv-loop n e tti sum₀ i₀ sum i =
-    (i ≤ n) × (sum ≡ sumTo (λ k. framesIn (getD tti k 0) * segmentIn (getD e k 0) (framesIn (getD tti k 0))) i) × (sum ≤ 524280 * i)
+    (i ≤ n) × (sum ≡ sumTo (λ k. framesIn (getD tti k 0) * segmentIn (getD e k 0) (framesIn (getD tti k 0))) i) × (sum ≤ mostFrames * 65535 * i)
 
 abbrev μ-loop : tie.MeasureT-loop
 μ-loop n e tti sum₀ i₀ sum i = n - i
