@@ -5,7 +5,6 @@ use Prim.Native.Nat.{ℕ, zero, suc, _+_, _*_, _/_, _%_}
 use lib.Dec.{eqb, leb}
 use lib.IntN.{ℤ, pos, natAbs, _+ℤ_, _-ℤ_, _*ℤ_}
 use lib.ListN.{getD, set, replicate}
-use Rattle.laws.specs.Tables.{upTo}
 use Rattle.sheet.specs.Counts.{mostFrames}
 use Rattle.sheet.specs.Sizes.{framesIn}
 use Rattle.orders.specs.Orders.{columnAt}
@@ -53,8 +52,3 @@ S q F column = getD (filled q F F) column 0
 unfoldable pub startOf : ℕ → ℤ → ℕ → ℕ → ℕ
 startOf N d tti frame =
     (2 * S (qOf N (remainderOf d N)) (framesIn tti) (columnAt tti (frame % framesIn tti)) * natAbs d + 1) % (2 * N)
-
--- S of a column as it is kept: 0 past F, and 0 where d = 0
-unfoldable pub keptOf : ℕ → ℤ → ℕ → ℕ → ℕ
-keptOf N d tti column =
-    cond (eqb (natAbs d) 0) 0 (upTo (framesIn tti) column (S (qOf N (remainderOf d N)) (framesIn tti) column))

@@ -4,8 +4,9 @@ ghost use mathlib.Core.Path.{_≡_};
 ghost use Prim.Native.Nat.{ℕ, _+_, _*_, _%_, _≤_, _<_};
 ghost use lib.ListN.{getD};
 ghost use Rattle.sheet.specs.Counts.{mostBits, mostTti, mostFrames};
+ghost use Rattle.sheet.specs.Sizes.{framesIn};
 ghost use Rattle.matching.specs.Signed.{signedBy};
-ghost use Rattle.offset.specs.Offset.{remainderOf, qOf, gcd, addedOf, yOf, filled, keptOf, startOf};
+ghost use Rattle.offset.specs.Offset.{remainderOf, qOf, gcd, addedOf, yOf, filled, S, startOf};
 use counters::FrameNumber;
 use matching::shares::Change;
 use sheet::count;
@@ -97,19 +98,17 @@ fn offsets(q: Spacing, f: u64) -> [u64; FRAMES]
     s
 }
 
-// S of each column, 0 past F, and 0 in all where d = 0.
+// S of each column, for d not 0: what a record of a channel may keep.
 pub fn kept(n: u64, d: Change, tti: u16) -> [u64; FRAMES]
-    requires { ⌜ (0 < d .size → 0 < n) × (n ≤ 16384) × (tti ≤ mostTti) ⌝ }
-    ensures { λ r. ⌜ ((c : ℕ) → getD r c 0 ≡ keptOf n (signedBy (d .less) (d .size)) tti c) × ((i : ℕ) → getD r i 0 ≤ mostFrames * 16384) ⌝ }
+    requires { ⌜ (0 < n) × (n ≤ 16384) × (0 < d .size) × (tti ≤ mostTti) ⌝ }
+    ensures { λ r. ⌜ ((c : ℕ) → getD r c 0 ≡ S (qOf n (remainderOf (signedBy (d .less) (d .size)) n)) (framesIn tti) c) × ((i : ℕ) → getD r i 0 ≤ mostFrames * 16384) ⌝ }
 {
-    if d.size == 0 {
-        return [0; FRAMES];
-    }
     let f = frames(tti);
-    offsets(quotient(n, remainder(d, n)), f)
+    let q = quotient(n, remainder(d, n));
+    offsets(q, f)
 }
 
-// The start e of a pattern, from the S that is kept of the frame's column; m is the magnitude of d.
+// The start e of a pattern, from S of the frame's column; m is the magnitude of d.
 pub fn start_from(at: u64, n: u64, m: u64) -> u64
     requires { ⌜ (0 < n) × (n ≤ 16384) × (m ≤ mostBits) × (at ≤ 4294967295) ⌝ }
     ensures { λ r. ⌜ r ≡ (2 * at * m + 1) % (2 * n) ⌝ }

@@ -48,7 +48,7 @@ returns c =
     col .column .ensures .0
     ∙ ap₂ columnAt (co .count .ensures .0) (wi .within .ensures .0 ∙ ap (λ (f : ℕ). a .frame .0 % f) (fr .frames .ensures .0))
     in
-    let e = c .start-from .ensures ∙ kept-start (a .n) (a .d .size) (a .tti) (a .frame .0) (a .d .less) (omega arith) (omega arith) p (ke .kept .ensures .0 _) in
+    let e = c .start-from .ensures ∙ kept-start (a .n) (a .d .size) (a .tti) (a .frame .0) (a .d .less) p (ke .kept .ensures .0 _) in
     let b = start-in (a .n) (signedBy (a .d .less) (a .d .size)) (a .tti) (a .frame .0) (omega arith) in
     (e, omega (arith, e, b .0), omega (arith, e, b .1))
 
