@@ -56,6 +56,11 @@ abbrev pub holdsAt : ℕ → List Line → Bool
 holdsAt n [] = false
 holdsAt n (l ∷ ls) = cond (eqb (l .number) n) (l .holds) (holdsAt n ls)
 
+-- the lines from that of a number on
+abbrev pub linesFrom : ℕ → List Line → List Line
+linesFrom n [] = []
+linesFrom n (l ∷ ls) = cond (eqb (l .number) n) (l ∷ ls) (linesFrom n ls)
+
 pub clear-at : (n : ℕ) {ls : List Line} → Clear ls → holdsAt n ls ≡ false
 clear-at n none = refl
 clear-at n (more {l} {ls} e c) = either (eqb (l .number) n) e (clear-at n c)

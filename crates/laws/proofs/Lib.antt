@@ -8,3 +8,4 @@ pub mod PartLaws
 pub mod FillingLaws
 pub mod TodoLaws
 pub mod FirstFailLaws
+pub mod PasteLaws

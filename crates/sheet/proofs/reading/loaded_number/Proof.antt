@@ -3,9 +3,8 @@ use mathlib.Core.Bool.{true, false}
 use Prim.Native.Nat.{ℕ, _≤_, _<_}
 use borrow.Author.Tests.{lt-ltb, le-ltb}
 use lib.Dec.{ltb}
-use lib.ListN.{drop}
 use Rattle.counters.specs.Lines.{firstOf}
-use Rattle.counters.proofs.LineLaws.{here, past}
+use Rattle.counters.proofs.LineLaws.{linesFrom, here, past}
 use Rattle.sheet.specs.Counts.{mostBits}
 use Rattle.sheet.specs.Sizes.{capacityAll}
 use Rattle.sheet.specs.Numbers.{emptyPlace, loadLines}
@@ -29,13 +28,13 @@ sum-is : (c : tie.Start) → c .args .load .sum ≡ capacityAll (c .args .fields
 sum-is c = ap (λ (x : Load). x .sum) (c .pre .1)
 
 -- each test that was passed leaves the number to the lines after its own
-past-empty : (c : tie.Else1) {x : ℕ} → x ≡ firstOf (drop 1 (loadLines (c .before .args .fields))) → x ≡ firstOf (loadLines (c .before .args .fields))
+past-empty : (c : tie.Else1) {x : ℕ} → x ≡ firstOf (linesFrom 6 (loadLines (c .before .args .fields))) → x ≡ firstOf (loadLines (c .before .args .fields))
 past-empty c = past _ 5 _ (sym (empty-is (c .before)) ∙ c .if1 .left)
 
-past-sizes : (c : tie.Else2) {x : ℕ} → x ≡ firstOf (drop 2 (loadLines (c .before .before .before .args .fields))) → x ≡ firstOf (loadLines (c .before .before .before .args .fields))
+past-sizes : (c : tie.Else2) {x : ℕ} → x ≡ firstOf (linesFrom 7 (loadLines (c .before .before .before .args .fields))) → x ≡ firstOf (loadLines (c .before .before .before .args .fields))
 past-sizes c h = past-empty (c .before .before) (past _ 6 _ (under _ _ (c .before .all-equalised .ensures) (c .if2 .left)) h)
 
-past-room : (c : tie.Else3) {x : ℕ} → x ≡ firstOf (drop 3 (loadLines (c .before .before .before .before .before .args .fields))) → x ≡ firstOf (loadLines (c .before .before .before .before .before .args .fields))
+past-room : (c : tie.Else3) {x : ℕ} → x ≡ firstOf (linesFrom 8 (loadLines (c .before .before .before .before .before .args .fields))) → x ≡ firstOf (loadLines (c .before .before .before .before .before .args .fields))
 past-room c h = past-sizes (c .before .before) (past _ 7 _ (under _ _ (sum-is (c .before .before .before .before .before)) (c .if3 .left)) h)
 
 past-silent : (c : tie.Else4) → 0 ≡ firstOf (loadLines (c .before .before .before .before .before .before .before .args .fields))
