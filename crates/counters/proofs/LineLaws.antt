@@ -41,7 +41,7 @@ pub of-clear : {ls : List Line} → Clear ls → firstOf ls ≡ 0
 of-clear none = refl
 of-clear (more {l} {ls} e c) = ap (λ (b : Bool). cond b (l .number) (firstOf ls)) e ∙ of-clear c
 
--- lists that are written out: a test of each number, and the line of a number, are computed
+-- lists that are written out: a test of each number is computed, and so are the line of a number and the lines from it on
 abbrev pub each : (ℕ → Bool) → List Line → Bool
 each test [] = true
 each test (l ∷ ls) = test (l .number) && each test ls
@@ -56,11 +56,6 @@ abbrev pub holdsAt : ℕ → List Line → Bool
 holdsAt n [] = false
 holdsAt n (l ∷ ls) = cond (eqb (l .number) n) (l .holds) (holdsAt n ls)
 
--- the lines from that of a number on
-abbrev pub linesFrom : ℕ → List Line → List Line
-linesFrom n [] = []
-linesFrom n (l ∷ ls) = cond (eqb (l .number) n) (l ∷ ls) (linesFrom n ls)
-
 pub clear-at : (n : ℕ) {ls : List Line} → Clear ls → holdsAt n ls ≡ false
 clear-at n none = refl
 clear-at n (more {l} {ls} e c) = either (eqb (l .number) n) e (clear-at n c)
@@ -68,6 +63,10 @@ clear-at n (more {l} {ls} e c) = either (eqb (l .number) n) e (clear-at n c)
     either : (b : Bool) {x y : Bool} → x ≡ false → y ≡ false → cond b x y ≡ false
     either true p q = p
     either false p q = q
+
+abbrev pub linesFrom : ℕ → List Line → List Line
+linesFrom n [] = []
+linesFrom n (l ∷ ls) = cond (eqb (l .number) n) (l ∷ ls) (linesFrom n ls)
 
 -- lines after lines: the first list's number where it has one, the second's where it is clear
 pub append-clear : {xs : List Line} (ys : List Line) → Clear xs → firstOf (xs ++ ys) ≡ firstOf ys
