@@ -1,12 +1,13 @@
 -- Laws of lines: what the number 0 says of them, lines after lines, and what is given where a call accepts or refuses.
 use mathlib.Core.Path.{_≡_, refl, sym, ap, _∙_}
-use mathlib.Core.Bool.{Bool, true, false, cond}
+use mathlib.Core.Bool.{Bool, true, false, _&&_, cond}
 use mathlib.Core.List.{List, [], _∷_, _++_}
 use Prim.Native.Nat.{ℕ, suc, _<_}
 use native.Mathlib.Omega.{arith}
-use borrow.Author.Tests.{eq-eqb, ne-eqb}
-use lib.Dec.{eqb}
+use borrow.Author.Tests.{eq-eqb, ne-eqb, ltb-true}
+use lib.Dec.{eqb, ltb}
 use Rattle.counters.specs.Lines.{Line, line, firstOf, given}
+use Rattle.counters.proofs.CountLaws.{both-true}
 
 -- no line holds
 pub data Clear : List Line → Type 0 where
@@ -39,6 +40,33 @@ clear-of (more {l} {ls} p q) h = let a = passed (l .holds) (l .number) (firstOf 
 pub of-clear : {ls : List Line} → Clear ls → firstOf ls ≡ 0
 of-clear none = refl
 of-clear (more {l} {ls} e c) = ap (λ (b : Bool). cond b (l .number) (firstOf ls)) e ∙ of-clear c
+
+-- lists that are written out: a test of each number is computed, and so are the line of a number and the lines from it on
+abbrev pub each : (ℕ → Bool) → List Line → Bool
+each test [] = true
+each test (l ∷ ls) = test (l .number) && each test ls
+
+pub numbered-of : (ls : List Line) → each (ltb 0) ls ≡ true → Numbered ls
+numbered-of [] h = none
+numbered-of (l ∷ ls) h =
+    let a = both-true (ltb 0 (l .number)) (each (ltb 0) ls) h in
+    more (ltb-true 0 (l .number) (a .0)) (numbered-of ls (a .1))
+
+abbrev pub holdsAt : ℕ → List Line → Bool
+holdsAt n [] = false
+holdsAt n (l ∷ ls) = cond (eqb (l .number) n) (l .holds) (holdsAt n ls)
+
+pub clear-at : (n : ℕ) {ls : List Line} → Clear ls → holdsAt n ls ≡ false
+clear-at n none = refl
+clear-at n (more {l} {ls} e c) = either (eqb (l .number) n) e (clear-at n c)
+  where
+    either : (b : Bool) {x y : Bool} → x ≡ false → y ≡ false → cond b x y ≡ false
+    either true p q = p
+    either false p q = q
+
+abbrev pub linesFrom : ℕ → List Line → List Line
+linesFrom n [] = []
+linesFrom n (l ∷ ls) = cond (eqb (l .number) n) (l ∷ ls) (linesFrom n ls)
 
 -- lines after lines: the first list's number where it has one, the second's where it is clear
 pub append-clear : {xs : List Line} (ys : List Line) → Clear xs → firstOf (xs ++ ys) ≡ firstOf ys

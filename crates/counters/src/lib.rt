@@ -55,9 +55,9 @@ impl TrchNumber {
         (self.0 - 1) as usize
     }
 
-    // The channel that stands at an index.
+    // The channel that stands at an index; a sheet counts its channels by 16 bits.
     pub fn at(i: usize) -> TrchNumber
-        requires { ⌜ i < 8 ⌝ }
+        requires { ⌜ i < 65536 ⌝ }
         ensures { λ r. ⌜ r .0 ≡ i + 1 ⌝ }
     {
         TrchNumber((i + 1) as u32)
@@ -104,7 +104,7 @@ pub struct FrameNumber(pub u32);
 impl FrameNumber {
     // n = frame number mod F, counted from 0.
     pub fn within(self, f: u64) -> usize
-        requires { ⌜ (0 < f) × (f ≤ 8) ⌝ }
+        requires { ⌜ 0 < f ⌝ }
         ensures { λ r. ⌜ (r ≡ self .0 % f) × (r < f) ⌝ }
     {
         (self.0 as u64 % f) as usize

@@ -13,7 +13,7 @@ use Rattle.laws.proofs.TestLaws.{split}
 use Rattle.counters.specs.Lines.{Line, line, firstOf, given}
 use Rattle.counters.proofs.LineLaws.{clear-of, append-clear, first-append, given-yes, given-no, given-read}
 use Rattle.looking.specs.Looking.{lookLines, indexed}
-use Rattle.looking.proofs.LookLaws.{Early, early-numbered, early-below}
+use Rattle.looking.proofs.LookLaws.{Early, early-numbered, early-not}
 use Rattle.demands.specs.Exactly.{Saying}
 use Rattle.demands.specs.Answers.{Answers, Points}
 use Rattle.demands.proofs.ExactLaws.{Means, apart, exactly}
@@ -57,7 +57,7 @@ twelve head early a b e =
     let tail : List Line = line a 11 ∷ line b 12 ∷ [] in
     split (firstOf head) 0
     (λ le. last-line a b (sym (append-clear tail (clear-of (early-numbered early) (omega arith))) ∙ e))
-    (λ lt. absurd (omega (arith, early-below early, first-append head tail (λ z. omega arith))))
+    (λ lt. absurd (early-not early (first-append head tail (λ z. omega arith) ∙ e)))
 
 module _ {A : Type 0} (test : A → Bool) (d : A) (Bad : A → Type 0) (bad : (x : A) → (test x ≡ false) ↔ Bad x)
     {head : List Line} (early : Early head) (values : List A) (needed width room : ℕ) where

@@ -210,7 +210,7 @@ finish-law s k joined old o e =
 
 module _ (s : List ℕ) (number : ℕ) (frame : List Float) where
   listened : (missing : Bool) → Early (frameLines s number ++ line missing 10 ∷ [])
-  listened missing = early-more missing 10 (early-frame s number) (omega arith) (omega arith)
+  listened missing = early-more missing 10 (early-frame s number) (omega arith) (λ q. omega arith)
 
   module _ (k b : ℕ) where
     abbrev made : Heard

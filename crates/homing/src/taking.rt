@@ -2,7 +2,7 @@
 ghost use mathlib.Core.Path.{_≡_};
 ghost use Prim.Native.Nat.{_+_, _*_, _%_, _≤_, _<_};
 ghost use lib.ListN.{length};
-ghost use Rattle.sheet.specs.Counts.{mostEncoded};
+ghost use Rattle.sheet.specs.Counts.{mostFrames, mostEncoded};
 ghost use Rattle.sheet.specs.Sizes.{sizeOf, capacityAll, equalisedAll};
 ghost use Rattle.matching.specs.Shares.{shareOf};
 ghost use Rattle.opening.specs.Opened.{Opens};
@@ -54,8 +54,8 @@ pub fn survey_channel(values: &[f32], opened: Opened, i: usize, number: FrameNum
 
 // Where the frame's segment of `size` begins among the f of a channel.
 fn segment_from(f: u64, size: usize, number: FrameNumber) -> usize
-    requires { ⌜ (0 < f) × (f ≤ 8) × (size ≤ mostEncoded) ⌝ }
-    ensures { λ r. ⌜ (r ≡ number .0 % f * size) × (r + size ≤ f * size) × (f * size ≤ 8 * mostEncoded) ⌝ }
+    requires { ⌜ (0 < f) × (f ≤ mostFrames) × (size ≤ mostEncoded) ⌝ }
+    ensures { λ r. ⌜ (r ≡ number .0 % f * size) × (r + size ≤ f * size) × (f * size ≤ mostFrames * mostEncoded) ⌝ }
 {
     number.within(f) * size
 }

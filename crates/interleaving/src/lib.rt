@@ -1,7 +1,7 @@
 // Steps 1 to 3, equalisation, first interleaving and segmentation, and step 8, second interleaving; and their undoing.
 ghost use mathlib.Core.Path.{_≡_};
 ghost use Prim.Native.Nat.{_≤_};
-ghost use Rattle.sheet.specs.Counts.{mostTti};
+ghost use Rattle.sheet.specs.Counts.{mostTti, mostFrames};
 ghost use Rattle.sheet.specs.Sizes.{framesIn};
 
 pub mod first;
@@ -10,7 +10,7 @@ pub mod second;
 // F of a TTI, as an index.
 fn frames(tti: usize) -> usize
     requires { ⌜ tti ≤ mostTti ⌝ }
-    ensures { λ r. ⌜ (r ≡ framesIn tti) × (1 ≤ r) × (r ≤ 8) ⌝ }
+    ensures { λ r. ⌜ (r ≡ framesIn tti) × (1 ≤ r) × (r ≤ mostFrames) ⌝ }
 {
     sheet::sizes::frames(tti as u16) as usize
 }

@@ -12,3 +12,4 @@ pub mod FillingLaws
 pub mod TodoLaws
 pub mod FirstFailLaws
 pub mod AboveLaws
+pub mod PasteLaws

@@ -3,7 +3,7 @@ use mathlib.Core.Path.{_≡_, refl, sym, ap, ap₂, _∙_}
 use mathlib.Core.Logic.{⊎-elim}
 use mathlib.Core.Bool.{Bool, true, false, true≢false, false≢true, _||_, or-true}
 use Prim.Native.Nat.{ℕ, zero, suc, _+_, _-_, _*_, _≤_, _<_}
-use native.Mathlib.Nat.{zero-mul, suc-mul, add-zero, add-suc}
+use native.Mathlib.Nat.{zero-mul, suc-mul, add-zero, add-suc, mul-add, mul-one}
 use native.Mathlib.Numerals.{add-one}
 use native.Mathlib.Omega.{arith}
 use native.Mathlib.Decide.{decLt, ℕ-discrete}
@@ -14,6 +14,23 @@ use Rattle.laws.proofs.TestLaws.{or-sides}
 pub sum-more : (f : ℕ → ℕ) (i : ℕ) {a b : ℕ} → a ≡ sumTo f i → b ≡ f i → a + b ≡ sumTo f (i + 1)
 unfolding sumTo
 sum-more f i p q = ap₂ _+_ p q ∙ ap (sumTo f) (sym (add-one i))
+
+-- a loop that adds up f 0, .. f (n - 1), each at most b
+pub record Summed (f : ℕ → ℕ) (b n sum i : ℕ) : Type 0 where
+  pub few : i ≤ n
+  pub is : sum ≡ sumTo f i
+  pub most : sum ≤ b * i
+
+pub summed-none : (f : ℕ → ℕ) (b n : ℕ) → Summed f b n 0 0
+unfolding sumTo
+summed-none f b n = record { few = omega arith; is = refl; most = omega arith }
+
+module _ {f : ℕ → ℕ} {b n sum i : ℕ} (s : Summed f b n sum i) where
+  pub summed-more : i < n → {x : ℕ} → x ≡ f i → x ≤ b → Summed f b n (sum + x) (i + 1)
+  summed-more l e h = record { few = omega arith; is = sum-more f i (s .is) e; most = omega (arith, s .most, mul-add b i 1, mul-one b) }
+
+  pub summed-all : n ≤ i → sum ≡ sumTo f n
+  summed-all l = let e : i ≡ n = omega (arith, s .few) in s .is ∙ ap (sumTo f) e
 
 -- the first term taken out
 pub sum-shift : (f : ℕ → ℕ) (n : ℕ) → sumTo f (suc n) ≡ f 0 + sumTo (λ i. f (suc i)) n

@@ -1,27 +1,31 @@
 -- Laws of calls that open a sheet, look at lent values and write others.
 use mathlib.Core.Path.{_≡_, refl, sym, ap, ap₂, _∙_, subst}
-use mathlib.Core.Bool.{Bool, true, false, not, _||_, cond}
+use mathlib.Core.Bool.{Bool, true, false, not, _&&_, _||_, cond}
 use mathlib.Core.List.{List, [], _∷_, _++_}
 use Prim.Native.Nat.{ℕ, _-_, _≤_, _<_}
 use native.Mathlib.Omega.{arith}
-use borrow.Author.Tests.{eq-eqb, ne-eqb, lt-ltb, le-ltb, eqb-true, eqb-false, ltb-false, not-false}
-use lib.Dec.{eqb, ltb, lit<}
+use borrow.Author.Tests.{eq-eqb, ne-eqb, lt-ltb, le-ltb, eqb-true, eqb-false, ltb-true, ltb-false, not-true, not-false}
+use lib.Dec.{eqb, ltb}
 use lib.ListN.{length}
 use Rattle.laws.specs.FirstFail.{firstFail}
 use Rattle.laws.proofs.TestLaws.{or-left, or-right}
 use Rattle.counters.specs.Lines.{Line, line, firstOf, given}
 use Rattle.counters.specs.declared.Answer.{Answer}
-use Rattle.counters.proofs.LineLaws.{Numbered, none, more, here, past, pass-zero, clear-of, of-clear, append-clear, append-zero, last-holds, last-clear, first-append, given-yes, given-no}
+use Rattle.counters.proofs.CountLaws.{both-true}
+use Rattle.counters.proofs.LineLaws.{Numbered, none, more, each, pass-zero, clear-of, of-clear, append-clear, append-zero, last-holds, last-clear, first-append, given-yes, given-no}
+use Rattle.sheet.specs.Counts.{mostBits}
 use Rattle.sheet.specs.Fields.{sheetOf}
+use Rattle.sheet.specs.Sizes.{capacityAll}
 use Rattle.sheet.specs.Numbers.{readLines, readNumber}
+use Rattle.sheet.specs.Range.{Accepted}
 use Rattle.sheet.specs.declared.Sheet.{Sheet}
 use Rattle.sheet.proofs.NumberLaws.{read-numbered}
 use Rattle.opening.specs.Opened.{openAnswer, Opens}
 use Rattle.opening.specs.declared.OpenAnswer.{OpenAnswer}
 use Rattle.opening.specs.declared.Opened.{Opened}
-use Rattle.opening.proofs.OpenLaws.{number-open, opened-is, accepted-in}
+use Rattle.opening.proofs.OpenLaws.{number-open, opened-is, accepted-in, opens, capacity-most}
 use Rattle.looking.specs.Outcome.{outcome}
-use Rattle.looking.specs.Looking.{lastFrame, frameLines, noTrch, notLong, lookLines, indexed, lookAnswer, looked, Begun}
+use Rattle.looking.specs.Looking.{lastFrame, frameLines, noTrch, notLong, lookLines, indexed, pointedAt, lookAnswer, looked, Begun}
 
 -- ---- the sheet opened, and the frame number
 
@@ -71,58 +75,68 @@ either-right false e = e
 pub both-clear : {a b : Bool} → a ≡ false → b ≡ false → a || b ≡ false
 both-clear p q = rw (p, q) refl
 
-module _ {A : Type 0} (test : A → Bool) (vs : List A) (needed n room : ℕ) where
-  made : {k : ℕ} → k ≡ firstOf (lookLines test vs needed n room) → {x : ℕ} → x ≡ indexed k (firstFail test vs)
-      → _≡_ {A = Answer} (record { number = k; at = x }) (lookAnswer test vs needed n room)
-  made p q = rw (q, p) refl
+-- number 11, by the two lengths
+pub misfit-yes : {have needed : ℕ} (n room : ℕ) → (have ≡ needed → ⊥) → true ≡ (notLong have needed || notLong n room)
+misfit-yes {have} {needed} n room h = sym (either-left (notLong n room) (ap not (ne-eqb have needed h)))
 
-  pub look-short : (length vs ≡ needed → ⊥) → _≡_ {A = Answer} (record { number = 11; at = 0 }) (lookAnswer test vs needed n room)
-  look-short h = made (here _ 11 _ (either-left (notLong n room) (ap not (ne-eqb (length vs) needed h)))) refl
+pub misfit-room : {have needed : ℕ} (n room : ℕ) → have ≡ needed → not (eqb n room) ≡ (notLong have needed || notLong n room)
+misfit-room {have} {needed} n room h = sym (ap (λ (b : Bool). not b || notLong n room) (eq-eqb have needed h))
 
-  pub look-narrow : (n ≡ room → ⊥) → _≡_ {A = Answer} (record { number = 11; at = 0 }) (lookAnswer test vs needed n room)
-  look-narrow h = made (here _ 11 _ (either-right (notLong (length vs) needed) (ap not (ne-eqb n room h)))) refl
+-- number 12
+module _ (bad n : ℕ) where
+  pub pointed-bad : bad < n → _≡_ {A = Answer} (record { number = 12; at = bad }) (pointedAt bad n)
+  pointed-bad h = rw (lt-ltb bad n h)
 
-  module _ (p : length vs ≡ needed) (q : n ≡ room) where
-    long : notLong (length vs) needed || notLong n room ≡ false
-    long = both-clear (ap not (eq-eqb (length vs) needed p)) (ap not (eq-eqb n room q))
+  pub pointed-none : n ≤ bad → _≡_ {A = Answer} (record { number = 0; at = 0 }) (pointedAt bad n)
+  pointed-none h = rw (le-ltb bad n h)
 
-    pub look-bad : {bad : ℕ} → bad ≡ firstFail test vs → bad < length vs → _≡_ {A = Answer} (record { number = 12; at = bad }) (lookAnswer test vs needed n room)
-    look-bad e h = made (past _ 11 _ long (here _ 12 0 (lt-ltb (firstFail test vs) (length vs) (omega arith)))) e
+-- and both
+module _ {A : Type 0} (test : A → Bool) (vs : List A) (needed n room : ℕ) {b : Bool} (e : b ≡ (notLong (length vs) needed || notLong n room)) where
+  pub look-misfit : b ≡ true → _≡_ {A = Answer} (record { number = 11; at = 0 }) (lookAnswer test vs needed n room)
+  look-misfit h = rw (sym e ∙ h)
 
-    pub look-good : {bad : ℕ} → bad ≡ firstFail test vs → length vs ≤ bad → _≡_ {A = Answer} (record { number = 0; at = 0 }) (lookAnswer test vs needed n room)
-    look-good e h = made (past _ 11 _ long (past _ 12 0 (le-ltb (firstFail test vs) (length vs) (omega arith)) refl)) refl
+  pub look-pointed : b ≡ false → {bad : ℕ} {r : Answer} → bad ≡ firstFail test vs → r ≡ pointedAt bad (length vs) → r ≡ lookAnswer test vs needed n room
+  look-pointed h p q = q ∙ ap (λ (x : ℕ). pointedAt x (length vs)) p ∙ rw (sym e ∙ h)
 
 -- ---- what the call leaves
 
--- lines whose numbers are above 0 and below 12
+-- lines whose numbers are above 0 and not 12
 pub data Early : List Line → Type 0 where
   no-line : Early []
-  and-line : {l : Line} {ls : List Line} → 0 < l .number → l .number < 12 → Early ls → Early (l ∷ ls)
+  and-line : {l : Line} {ls : List Line} → 0 < l .number → (l .number ≡ 12 → ⊥) → Early ls → Early (l ∷ ls)
 
 pub early-numbered : {ls : List Line} → Early ls → Numbered ls
 early-numbered no-line = none
 early-numbered (and-line a b e) = more a (early-numbered e)
 
-cond-below : (b : Bool) (n r : ℕ) → n < 12 → r < 12 → cond b n r < 12
-cond-below true n r p q = p
-cond-below false n r p q = q
+either-not : (b : Bool) (n r : ℕ) → (n ≡ 12 → ⊥) → (r ≡ 12 → ⊥) → cond b n r ≡ 12 → ⊥
+either-not true n r p q = p
+either-not false n r p q = q
 
-pub early-below : {ls : List Line} → Early ls → firstOf ls < 12
-early-below no-line = omega arith
-early-below (and-line {l} {ls} a b e) = cond-below (l .holds) (l .number) (firstOf ls) b (early-below e)
+pub early-not : {ls : List Line} → Early ls → firstOf ls ≡ 12 → ⊥
+early-not no-line = λ q. omega arith
+early-not (and-line {l} {ls} a b e) = either-not (l .holds) (l .number) (firstOf ls) b (early-not e)
+
+-- a list that is written out is looked through by computing
+abbrev early : ℕ → Bool
+early n = ltb 0 n && not (eqb n 12)
+
+early-of : (ls : List Line) → each early ls ≡ true → Early ls
+early-of [] h = no-line
+early-of (l ∷ ls) h =
+    let a = both-true (early (l .number)) (each early ls) h in
+    let b = both-true (ltb 0 (l .number)) (not (eqb (l .number) 12)) (a .0) in
+    and-line (ltb-true 0 (l .number) (b .0)) (eqb-false (l .number) 12 (not-true _ (b .1))) (early-of ls (a .1))
 
 pub early-read : (s : List ℕ) → Early (readLines s)
-early-read s =
-    let loads =
-    and-line (lit< tt) (lit< tt) (and-line (lit< tt) (lit< tt) (and-line (lit< tt) (lit< tt) (and-line (lit< tt) (lit< tt) no-line))) in
-    and-line (lit< tt) (lit< tt) (and-line (lit< tt) (lit< tt) (and-line (lit< tt) (lit< tt) (and-line (lit< tt) (lit< tt) loads)))
+early-read s = early-of (readLines s) refl
 
-pub early-more : {xs : List Line} (b : Bool) (n : ℕ) → Early xs → 0 < n → n < 12 → Early (xs ++ line b n ∷ [])
+pub early-more : {xs : List Line} (b : Bool) (n : ℕ) → Early xs → 0 < n → (n ≡ 12 → ⊥) → Early (xs ++ line b n ∷ [])
 early-more b n no-line p q = and-line p q no-line
 early-more b n (and-line x y e) p q = and-line x y (early-more b n e p q)
 
 pub early-frame : (s : List ℕ) (frame : ℕ) → Early (frameLines s frame)
-early-frame s frame = early-more (ltb lastFrame frame) 9 (early-read s) (omega arith) (omega arith)
+early-frame s frame = early-more (ltb lastFrame frame) 9 (early-read s) (omega arith) (λ q. omega arith)
 
 -- an accepted beginning opens the sheet
 pub begun-opens : (s : List ℕ) (tail : List Line) (a : OpenAnswer) → Begun s (readLines s ++ tail) a → a .number ≡ 0 → Opens (a .opened)
@@ -152,7 +166,7 @@ module _ {A B : Type 0} (test : A → Bool) (vs : List A) (needed room : ℕ) (h
   pub left-early : {n : ℕ} → n ≡ firstOf head → (n ≡ 0 → ⊥) → outcome n 0 old ≡ looked whole (firstFail test vs) count new old
   left-early {n} e z =
       let f : n ≡ whole = e ∙ first-append head (lookLines test vs needed (length old) room) (λ q. z (e ∙ q)) in
-      let k : whole ≡ 12 → ⊥ = λ q. omega (arith, early-below early) in
+      let k : whole ≡ 12 → ⊥ = λ q. early-not early (sym e ∙ f ∙ q) in
       left f
       (sym (given-no whole count (indexed whole (firstFail test vs)) (λ q. z (f ∙ q)) ∙ ap (λ (b : Bool). cond b (firstFail test vs) 0) (ne-eqb whole 12 k)))
       (sym (given-no whole new old (λ q. z (f ∙ q))))
@@ -201,3 +215,34 @@ module _ {A B : Type 0} (test : A → Bool) (vs : List A) (old : List B) (need r
     leaves-written k f g =
         left-written test vs (need (sheetOf s)) (room (sheetOf s)) head early (count (sheetOf s)) (make (sheetOf s)) old (sym (b .number) ∙ z) r asked k
         (f ∙ ap count (begun-fields s a b z)) (g ∙ ap make (begun-fields s a b z))
+
+-- D values, and D places for them
+pub record Fits (sh : Sheet) (m n : ℕ) : Type 0 where
+  pub accepted : Accepted sh
+  pub values : m ≡ capacityAll sh
+  pub places : n ≡ capacityAll sh
+  pub few : n ≤ mostBits
+
+-- the same of a call that moves D values into D places, and asks for no frame number
+module _ {A B : Type 0} (test : A → Bool) (vs : List A) (old : List B) (make : Sheet → List B) (s : List ℕ) (a : OpenAnswer) (e : a ≡ openAnswer s) where
+  abbrev Moves : ℕ → ℕ → List B → Type 0
+  Moves = Leaves test vs old capacityAll capacityAll capacityAll make s (readLines s) (early-read s) a (begun-sheet s a e)
+
+  pub moves-early : (a .number ≡ 0 → ⊥) → Moves (a .number) 0 old
+  moves-early = leaves-early test vs old capacityAll capacityAll capacityAll make s (readLines s) (early-read s) a (begun-sheet s a e)
+
+  module _ (z : a .number ≡ 0) {d : ℕ} (p : d ≡ capacityAll (a .opened .fields)) (r : Answer) (q : r ≡ lookAnswer test vs d (length old) d) where
+    pub moves-looked : (r .number ≡ 0 → ⊥) → Moves (r .number) (r .at) old
+    moves-looked =
+        leaves-looked test vs old capacityAll capacityAll capacityAll make s (readLines s) (early-read s) a (begun-sheet s a e) z p p r q
+
+    pub moves-written : r .number ≡ 0 → {l : List B} → l ≡ make (a .opened .fields) → Moves 0 d l
+    moves-written k g =
+        leaves-written test vs old capacityAll capacityAll capacityAll make s (readLines s) (early-read s) a (begun-sheet s a e) z p p r q k p g
+
+    -- what is lent is as long as it has to be
+    pub moves-fit : r .number ≡ 0 → Fits (a .opened .fields) (length vs) (length old)
+    moves-fit k =
+        let l = look-long test vs d (length old) d r q k in
+        let o = opens s a e z .accepted in
+        record { accepted = o; values = l .0 ∙ p; places = l .1 ∙ p; few = omega (arith, l .1, p, capacity-most (a .opened .fields) o) }

@@ -41,6 +41,10 @@ lookLines test vs needed n room =
 abbrev pub indexed : ℕ → ℕ → ℕ
 indexed n bad = cond (eqb n 12) bad 0
 
+-- of the line of 12 alone, `bad` being the index of the first bad value of n
+abbrev pub pointedAt : ℕ → ℕ → Answer
+pointedAt bad n = let k : ℕ = cond (ltb bad n) 12 0 in record { number = k; at = indexed k bad }
+
 abbrev pub lookAnswer : {A : Type 0} → (A → Bool) → List A → ℕ → ℕ → ℕ → Answer
 lookAnswer test vs needed n room =
     let k = firstOf (lookLines test vs needed n room) in

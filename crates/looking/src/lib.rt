@@ -1,8 +1,9 @@
 // What several calls ask first: the sheet, the frame number, the channel, the lengths, and that the values lent are bits or in range.
 ghost use mathlib.Core.Path.{_≡_};
+ghost use mathlib.Core.Bool.{_||_};
 ghost use Rattle.joining.specs.Range.{inRange};
 ghost use Rattle.frame.specs.Bit.{isBit};
-ghost use Rattle.looking.specs.Looking.{frameLines, noTrch, lookAnswer, Begun};
+ghost use Rattle.looking.specs.Looking.{frameLines, noTrch, notLong, pointedAt, lookAnswer, Begun};
 use counters::Answer;
 use counters::FrameNumber;
 use counters::TrchNumber;
@@ -36,18 +37,21 @@ pub fn absent(fields: Sheet, trch: TrchNumber) -> bool
     !trch.is_among(fields.channels)
 }
 
-// Numbers 11 and 12: `needed` bits are lent, `room` places in a buffer of n.
-pub fn look(bits: &[u8], needed: u64, n: usize, room: u64) -> Answer
-    ensures { λ r. ⌜ r ≡ lookAnswer isBit (now (bits .entry)) needed n room ⌝ }
+// Number 11: whether the `have` values that are lent are not `needed`, or the buffer of n has not `room` places.
+fn misfits(have: usize, needed: u64, n: usize, room: u64) -> bool
+    ensures { λ r. ⌜ r ≡ (notLong have needed || notLong n room) ⌝ }
 {
-    if bits.len() as u64 != needed {
-        return Answer { number: 11, at: 0 };
+    if have as u64 != needed {
+        return true;
     }
-    if n as u64 != room {
-        return Answer { number: 11, at: 0 };
-    }
-    let bad = first_bad(bits);
-    if bad < bits.len() {
+    n as u64 != room
+}
+
+// Number 12 where `bad`, the index of the first bad value, is one of n.
+fn pointed(bad: usize, n: usize) -> Answer
+    ensures { λ r. ⌜ r ≡ pointedAt bad n ⌝ }
+{
+    if bad < n {
         return Answer {
             number: 12,
             at: bad as u64,
@@ -56,22 +60,22 @@ pub fn look(bits: &[u8], needed: u64, n: usize, room: u64) -> Answer
     Answer { number: 0, at: 0 }
 }
 
+// Numbers 11 and 12: `needed` bits are lent, `room` places in a buffer of n.
+pub fn look(bits: &[u8], needed: u64, n: usize, room: u64) -> Answer
+    ensures { λ r. ⌜ r ≡ lookAnswer isBit (now (bits .entry)) needed n room ⌝ }
+{
+    if misfits(bits.len(), needed, n, room) {
+        return Answer { number: 11, at: 0 };
+    }
+    pointed(first_bad(bits), bits.len())
+}
+
 // The same of soft values.
 pub fn look_soft(values: &[f32], needed: u64, n: usize, room: u64) -> Answer
     ensures { λ r. ⌜ r ≡ lookAnswer inRange (now (values .entry)) needed n room ⌝ }
 {
-    if values.len() as u64 != needed {
+    if misfits(values.len(), needed, n, room) {
         return Answer { number: 11, at: 0 };
     }
-    if n as u64 != room {
-        return Answer { number: 11, at: 0 };
-    }
-    let bad = first_out(values);
-    if bad < values.len() {
-        return Answer {
-            number: 12,
-            at: bad as u64,
-        };
-    }
-    Answer { number: 0, at: 0 }
+    pointed(first_out(values), values.len())
 }

@@ -15,15 +15,16 @@ use Rattle.laws.specs.Sums.{sumTo, anyTo}
 use Rattle.laws.specs.Tables.{table, upTo}
 use Rattle.laws.specs.Least.{Passes}
 use Rattle.laws.proofs.LeastLaws.{first-passes, rises}
-use Rattle.laws.proofs.SumLaws.{sum-more}
-use Rattle.laws.proofs.TableLaws.{zeros-at, table-set, filled-all, filled-at, upTo-past}
-use Rattle.sheet.specs.Counts.{mostChannels, mostEncoded, mostRatio}
+use Rattle.laws.proofs.SumLaws.{sum-more, sum-most}
+use Rattle.laws.proofs.TableLaws.{zeros-at, table-set, table-same, filled-all, filled-at, upTo-past, upTo-same}
+use Rattle.sheet.specs.Counts.{mostChannels, mostCapacities, mostEncoded, mostRatio}
 use Rattle.sheet.specs.Fields.{encodedOf, ratioOf}
 use Rattle.sheet.specs.Sizes.{framesIn, segmentIn, framesOf, sizeOf, capacityAll}
 use Rattle.sheet.specs.Numbers.{silent}
 use Rattle.sheet.specs.Range.{Ranged}
 use Rattle.sheet.specs.declared.Sheet.{Sheet}
-use Rattle.matching.specs.Shares.{cutIn, shareIn, weightOf, weightAll, cutOf, shareOf, channelOf, cutsOf}
+use Rattle.sheet.proofs.SizeLaws.{size-most}
+use Rattle.matching.specs.Shares.{cutIn, shareIn, weightOf, weightAll, cutOf, shareOf, channelOf, partsOf, cutsOf}
 
 -- Z and V of any weights w of n channels, not all 0
 module _ (d : ℕ) (w : ℕ → ℕ) (n : ℕ) (p : 0 < sumTo w n) where
@@ -107,31 +108,61 @@ weight-heard sh r h = weight-some sh r (sh .channels) (omega arith) (not-false _
 abbrev pub weightsIn : List ℕ → List ℕ → List ℕ → ℕ → ℕ
 weightsIn rm e tti i = getD rm i 0 * segmentIn (getD e i 0) (framesIn (getD tti i 0))
 
--- the cuts as an array, filled from Z_0 up to Z_k
-abbrev pub cutsTo : ℕ → (ℕ → ℕ) → ℕ → ℕ → List ℕ
-cutsTo d w all k = table (λ i. upTo (k + 1) i (d * sumTo w i / all)) 0 (mostChannels + 1)
+-- numbers after 0 to I channels as an array, of which the first k + 1 are filled; the first is 0
+abbrev pub filledTo : (ℕ → ℕ) → ℕ → List ℕ
+filledTo f k = table (λ i. upTo (k + 1) i (f i)) 0 (mostChannels + 1)
 
-module _ (d : ℕ) (w : ℕ → ℕ) (all : ℕ) where
-  first-entry : (i : ℕ) → Dec (i < 1) → 0 ≡ upTo 1 i (d * sumTo w i / all)
+module _ (f : ℕ → ℕ) where
+  first-entry : f 0 ≡ 0 → (i : ℕ) → Dec (i < 1) → 0 ≡ upTo 1 i (f i)
+  first-entry z i (yes l) = let e : 0 ≡ i = omega arith in subst (λ (x : ℕ). 0 ≡ upTo 1 x (f x)) e (sym z)
+  first-entry z i (no l) = sym (upTo-past 1 i (f i) (omega arith))
+
+  pub fill-first : f 0 ≡ 0 → replicate (mostChannels + 1) 0 ≡ filledTo f 0
+  fill-first z =
+      filled-all (λ i. upTo 1 i (f i)) (replicate (mostChannels + 1) 0) (mostChannels + 1) refl
+      (λ i l. zeros-at (mostChannels + 1) i ∙ first-entry z i (decLt i 1))
+
+  pub fill-more : (k : ℕ) {x : ℕ} (l : List ℕ) → k < mostChannels → l ≡ filledTo f k → x ≡ f (k + 1) → set l (k + 1) x ≡ filledTo f (k + 1)
+  fill-more k l h e ex = rw (e, ex) (table-set f (mostChannels + 1) (k + 1) (omega arith))
+
+pub parts-all : (sh : Sheet) (k : ℕ) → k ≡ sh .channels → filledTo (sumTo (weightOf sh)) k ≡ partsOf sh
+unfolding partsOf
+parts-all sh k e = ap (filledTo (sumTo (weightOf sh))) e
+
+-- what stands in the sums: they begin with 0 and end with the sum over all, and no product with one is too large
+module _ (sh : Sheet) (r : Ranged sh) (parts : List ℕ) (e : parts ≡ partsOf sh) where
+  part-at : (i : ℕ) → i ≤ sh .channels → getD parts i 0 ≡ sumTo (weightOf sh) i
+  unfolding partsOf
+  part-at i h = rw e (filled-at (sumTo (weightOf sh)) (sh .channels + 1) (mostChannels + 1) i (omega (arith, r .eight)) (omega arith))
+
+  pub part-none : (d all : ℕ) → d * getD parts 0 0 / all ≡ 0
   unfolding sumTo
-  first-entry i (yes l) =
-      let e : 0 ≡ i = omega arith in
-      let z : d * 0 / all ≡ 0 = ap (λ (x : ℕ). x / all) (mul-zero d) ∙ zero-div all in
-      subst (λ (x : ℕ). 0 ≡ upTo 1 x (d * sumTo w x / all)) e (sym z)
-  first-entry i (no l) = sym (upTo-past 1 i (d * sumTo w i / all) (omega arith))
+  part-none d all = ap (λ (x : ℕ). d * x / all) (part-at 0 (omega arith)) ∙ ap (λ (x : ℕ). x / all) (mul-zero d) ∙ zero-div all
 
-  pub cuts-first : replicate (mostChannels + 1) 0 ≡ cutsTo d w all 0
-  cuts-first =
-      filled-all (λ i. upTo 1 i (d * sumTo w i / all)) (replicate (mostChannels + 1) 0) (mostChannels + 1) refl
-      (λ i l. zeros-at (mostChannels + 1) i ∙ first-entry i (decLt i 1))
+  pub part-all : (n : ℕ) → n ≡ sh .channels → getD parts n 0 ≡ weightAll sh
+  part-all n q = part-at n (omega arith) ∙ ap (sumTo (weightOf sh)) q
 
-  pub cuts-more : (k : ℕ) {x : ℕ} (z : List ℕ) → k < mostChannels → z ≡ cutsTo d w all k → x ≡ sumTo w (k + 1)
-      → set z (k + 1) (d * x / all) ≡ cutsTo d w all (k + 1)
-  cuts-more k z h e ex = rw (e, ex) (table-set (λ i. d * sumTo w i / all) (mostChannels + 1) (k + 1) (omega arith))
+  part-most : (i : ℕ) → i ≤ sh .channels → getD parts i 0 ≤ mostRatio * mostEncoded * mostChannels
+  part-most i h =
+      let m =
+      sum-most (weightOf sh) (mostRatio * mostEncoded) i
+      (λ k l. mul-le-mul (r .ratio256 k (omega arith)) (le-trans (size-most (encodedOf sh k) (framesOf sh k)) (r .encoded k (omega arith))))
+      in
+      omega (arith, part-at i h, r .eight)
 
-pub cuts-all : (sh : Sheet) (k : ℕ) {d all : ℕ} → d ≡ capacityAll sh → all ≡ weightAll sh → k ≡ sh .channels → cutsTo d (weightOf sh) all k ≡ cutsOf sh
-unfolding cutsOf
-cuts-all sh k ed ea e = rw (ed, ea, e)
+  pub product-most : (i : ℕ) → i ≤ sh .channels → {d : ℕ} → d ≤ 65535 * mostCapacities
+      → d * getD parts i 0 ≤ 65535 * mostCapacities * (mostRatio * mostEncoded * mostChannels)
+  product-most i h l = mul-le-mul l (part-most i h)
+
+  -- the cuts, from the sums
+  pub cuts-all : (k : ℕ) {d all : ℕ} → d ≡ capacityAll sh → all ≡ weightAll sh → k ≡ sh .channels
+      → filledTo (λ i. d * getD parts i 0 / all) k ≡ cutsOf sh
+  unfolding cutsOf
+  cuts-all k ed ea q =
+      rw (ed, ea, q)
+      (table-same _ _ (mostChannels + 1)
+      (λ i l.
+      upTo-same (sh .channels + 1) (sh .channels + 1) i _ _ refl (λ m. ap (λ (x : ℕ). capacityAll sh * x / weightAll sh) (part-at i (omega arith)))))
 
 pub cuts-at : (sh : Sheet) (i : ℕ) → sh .channels ≤ mostChannels → i ≤ sh .channels → getD (cutsOf sh) i 0 ≡ cutOf sh i
 unfolding cutsOf
@@ -148,9 +179,6 @@ pub change-more : (v n : ℕ) → n ≤ v → pos (v - n) ≡ pos v -ℤ pos n
 change-more v zero h = ap pos (omega arith)
 change-more v (suc m) h = sym (ap (λ (b : Bool). cond b (negsuc (suc m - suc v)) (pos (v - suc m))) (le-ltb v (suc m) h))
 
--- the bounds that keep every product in 64 bits
-pub weight-most : {a b : ℕ} → a ≤ mostRatio → b ≤ mostEncoded → a * b ≤ 4194048
+-- the bound of RM x N
+pub weight-most : {a b : ℕ} → a ≤ mostRatio → b ≤ mostEncoded → a * b ≤ mostRatio * mostEncoded
 weight-most h i = mul-le-mul h i
-
-pub product-most : {a b : ℕ} → a ≤ 15728400 → b ≤ 33552384 → a * b ≤ 527725316505600
-product-most h i = mul-le-mul h i

@@ -44,6 +44,10 @@ channelOf sh x = first (cutOf sh) x (sh .channels) 0
 abbrev pub channelPart : {A : Type 0} → Sheet → ℕ → List A → List A
 channelPart sh i xs = take (shareOf sh i) (drop (cutOf sh i) xs)
 
+-- the sums of RM x N over the first 0 to I channels, 0 past them
+unfoldable pub partsOf : Sheet → List ℕ
+partsOf sh = table (λ i. upTo (sh .channels + 1) i (sumTo (weightOf sh) i)) 0 (mostChannels + 1)
+
 -- Z_0 to Z_I, 0 past them
 unfoldable pub cutsOf : Sheet → List ℕ
 cutsOf sh = table (λ i. upTo (sh .channels + 1) i (cutOf sh i)) 0 (mostChannels + 1)

@@ -2,11 +2,11 @@
 ghost use mathlib.Core.Path.{_≡_};
 ghost use Prim.Native.Nat.{ℕ, _*_, _≤_, _<_};
 ghost use lib.IntN.{pos, _-ℤ_};
-ghost use Rattle.sheet.specs.Counts.{mostTti, mostEncoded, mostRatio};
+ghost use Rattle.sheet.specs.Counts.{mostCapacities, mostTti, mostEncoded, mostRatio};
 ghost use Rattle.sheet.specs.Sizes.{framesIn, segmentIn, capacityAll};
 ghost use Rattle.sheet.specs.Range.{Ranged};
 ghost use Rattle.matching.specs.Signed.{signedBy};
-ghost use Rattle.matching.specs.Shares.{weightAll, cutsOf};
+ghost use Rattle.matching.specs.Shares.{weightAll, partsOf, cutsOf};
 use sheet::Sheet;
 use sheet::count;
 use sheet::counts::CHANNELS;
@@ -38,46 +38,44 @@ pub fn difference(v: u64, n: u64) -> Change
 // RM x N.
 fn weight(rm: u16, e: u16, tti: u16) -> u64
     requires { ⌜ (rm ≤ mostRatio) × (e ≤ mostEncoded) × (tti ≤ mostTti) ⌝ }
-    ensures { λ r. ⌜ (r ≡ rm * segmentIn e (framesIn tti)) × (r ≤ 4194048) ⌝ }
+    ensures { λ r. ⌜ (r ≡ rm * segmentIn e (framesIn tti)) × (r ≤ mostRatio * mostEncoded) ⌝ }
 {
     wide(rm) * segment(e, tti)
 }
 
-// The sum of RM x N over all channels.
-fn weight_all(fields: Sheet) -> u64
+// RM x N added up over the first 0 to I channels, 0 past them.
+fn parts(fields: Sheet) -> [u64; CHANNELS + 1]
     requires { ⌜ Ranged fields ⌝ }
-    ensures { λ r. ⌜ r ≡ weightAll fields ⌝ }
+    ensures { λ r. ⌜ r ≡ partsOf fields ⌝ }
 {
     let n = count(fields.channels);
     let rm = fields.rm;
     let e = fields.e;
     let tti = fields.tti;
-    let mut sum: u64 = 0;
-    let mut i: usize = 0;
-    while i < n {
-        sum += weight(rm[i], e[i], tti[i]);
-        i += 1;
-    }
-    sum
-}
-
-// Z_0 to Z_I, 0 past them, of the fields and their D.
-pub fn cuts(fields: Sheet, d: u64) -> [u64; CHANNELS + 1]
-    requires { ⌜ Ranged fields × (0 < weightAll fields) × (d ≡ capacityAll fields) × (d ≤ 15728400) ⌝ }
-    ensures { λ r. ⌜ r ≡ cutsOf fields ⌝ }
-{
-    let n = count(fields.channels);
-    let all = weight_all(fields);
-    let rm = fields.rm;
-    let e = fields.e;
-    let tti = fields.tti;
-    let mut z = [0u64; CHANNELS + 1];
+    let mut all = [0u64; CHANNELS + 1];
     let mut part: u64 = 0;
     let mut i: usize = 0;
     while i < n {
         part += weight(rm[i], e[i], tti[i]);
         i += 1;
-        z[i] = d * part / all;
+        all[i] = part;
+    }
+    all
+}
+
+// Z_0 to Z_I, 0 past them, of the fields and their D.
+pub fn cuts(fields: Sheet, d: u64) -> [u64; CHANNELS + 1]
+    requires { ⌜ Ranged fields × (0 < weightAll fields) × (d ≡ capacityAll fields) × (d ≤ 65535 * mostCapacities) ⌝ }
+    ensures { λ r. ⌜ r ≡ cutsOf fields ⌝ }
+{
+    let n = count(fields.channels);
+    let parts = parts(fields);
+    let all = parts[n];
+    let mut z = [0u64; CHANNELS + 1];
+    let mut i: usize = 0;
+    while i < n {
+        i += 1;
+        z[i] = d * parts[i] / all;
     }
     z
 }

@@ -5,7 +5,7 @@ use Prim.Native.Nat.{ℕ, _+_, _*_, _-_, _%_, _≤_, _<_}
 use native.Mathlib.Nat.{mul-le-mul}
 use native.Mathlib.Omega.{arith}
 use lib.IntN.{natAbs}
-use Rattle.sheet.specs.Counts.{mostEncoded, mostBits}
+use Rattle.sheet.specs.Counts.{mostFrames, mostEncoded, mostBits}
 use Rattle.sheet.specs.Fields.{ttiOf}
 use Rattle.sheet.specs.Sizes.{framesOf, sizeOf, capacityAll}
 use Rattle.sheet.specs.Range.{Accepted}
@@ -24,8 +24,8 @@ use Rattle.naming.specs.Name.{Name, bitNumber, nameAt}
 use Rattle.naming.proofs.Multiplexed.{lies}
 
 -- a bit's number fits
-pub number-most : {m f : ℕ} → m < mostEncoded → f ≤ 8 → m * f ≤ 131064
-number-most {m} {f} h k = mul-le-mul {n₁ = m} {m₁ = f} {n₂ = 16383} {m₂ = 8} (omega arith) k
+pub number-most : {m f : ℕ} → m < mostEncoded → f ≤ mostFrames → m * f ≤ mostEncoded * mostFrames
+number-most {m} {f} h k = mul-le-mul {n₁ = m} {m₁ = f} {n₂ = mostEncoded} {m₂ = mostFrames} (omega arith) k
 
 -- index x in its channel i
 pub record Part (sh : Sheet) (x i : ℕ) : Type 0 where

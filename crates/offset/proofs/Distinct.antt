@@ -10,6 +10,7 @@ use lib.Dec.{T, eqb, eqb→eq}
 use lib.ListN.{length, getD, length-set}
 use lib.Seq.{getD-set-same, getD-set-other}
 use lib.IntN.{ℤ, pos, negsuc}
+use Rattle.sheet.specs.Counts.{mostFrames}
 use Rattle.sheet.specs.Sizes.{framesIn}
 use Rattle.offset.specs.Offset.{euclid, gcd, addedOf, yOf, filled, S}
 use borrow.Author.Tests.{eq-eqb}
@@ -115,14 +116,14 @@ distinct (negsuc k) t x z q h i j e =
     distinct-by true t (suc k) x z h p i j (sym (ap (λ (w : ℕ). w % F) (y-neg (suc k) F x p f)) ∙ (e ∙ ap (λ (w : ℕ). w % F) (y-neg (suc k) F z p f)))
 
 -- so S has, at the column y mod F, the y div F of each x
-pub frames-le : (t : ℕ) → t < 4 → framesIn t ≤ 8
+pub frames-le : (t : ℕ) → t < 4 → framesIn t ≤ mostFrames
 frames-le zero h = omega arith
 frames-le (suc zero) h = omega arith
 frames-le (suc (suc zero)) h = omega arith
 frames-le (suc (suc (suc zero))) h = omega arith
 frames-le (suc (suc (suc (suc t)))) h = absurd (omega arith)
 
-pub filled-length : (q : ℤ) (F k : ℕ) → length (filled q F k) ≡ 8
+pub filled-length : (q : ℤ) (F k : ℕ) → length (filled q F k) ≡ mostFrames
 unfolding filled
 filled-length q F zero = refl
 filled-length q F (suc k) = length-set (filled q F k) (yOf q F k % F) (yOf q F k / F) ∙ filled-length q F k
@@ -136,7 +137,7 @@ module _ (q : ℤ) (t : ℕ) (nz : q ≢ pos 0) (h : t < 4) where
       go : (x < k → getD (filled q (framesIn t) k) (yOf q (framesIn t) x % framesIn t) 0 ≡ yOf q (framesIn t) x / framesIn t) → Dec (x ≡ k) → getD (filled q (framesIn t) (suc k)) (yOf q (framesIn t) x % framesIn t) 0 ≡ yOf q (framesIn t) x / framesIn t
       go r (yes e) =
           let m : yOf q (framesIn t) k % framesIn t < framesIn t = mod-lt (yOf q (framesIn t) k) (omega arith) in
-          let l : length (filled q (framesIn t) k) ≡ 8 = filled-length q (framesIn t) k in
+          let l : length (filled q (framesIn t) k) ≡ mostFrames = filled-length q (framesIn t) k in
           rw e (getD-set-same (filled q (framesIn t) k) (yOf q (framesIn t) k % framesIn t) (yOf q (framesIn t) k / framesIn t) 0 (omega (arith, frames-le t h)))
       go r (no e) =
           getD-set-other (filled q (framesIn t) k) (yOf q (framesIn t) k % framesIn t) (yOf q (framesIn t) x % framesIn t) (yOf q (framesIn t) k / framesIn t) 0

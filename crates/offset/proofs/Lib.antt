@@ -3,4 +3,5 @@ pub mod Meaning
 pub mod Distinct
 pub mod Whole
 pub mod Bounds
+pub mod KeptLaws
 pub mod Example

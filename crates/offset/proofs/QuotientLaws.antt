@@ -10,11 +10,9 @@ use borrow.Author.Tests.{ltb-true, ltb-false, lt-ltb, le-leb, lt-leb, ne-eqb}
 use lib.Dec.{ltb, leb, eqb}
 use lib.IntN.{ℤ, pos, negℤ, natAbs, subℕ, _+ℤ_, _*ℤ_}
 use Rattle.offset.specs.Ints.{floorDiv, floorOver, ceilOver, modOver}
-use Rattle.sheet.specs.Sizes.{framesIn}
-use Rattle.orders.specs.Orders.{columnAt}
+use Rattle.sheet.specs.Counts.{mostFrames}
 use Rattle.matching.specs.Signed.{signedBy}
-use Rattle.matching.proofs.SignedLaws.{magnitude}
-use Rattle.offset.specs.Offset.{remainderOf, qOf, euclid, gcd, addedOf, qF, yOf, filled, S, startOf}
+use Rattle.offset.specs.Offset.{remainderOf, qOf, euclid, gcd, addedOf, qF, yOf}
 
 -- signed numbers that are not above 0
 pub neg-add : (m g : ℕ) → g ≤ m → negℤ (pos m) +ℤ pos g ≡ negℤ (pos (m - g))
@@ -163,18 +161,9 @@ pub gcd-zero : (a : ℕ) → gcd a 0 ≡ a
 unfolding gcd euclid
 gcd-zero a = refl
 
--- x|q| for x below 8
-pub whole-le : (x k : ℕ) → x < 8 → k ≤ 16384 → x * k ≤ 114688
-whole-le x k h i = mul-le-mul {n₁ = x} {m₁ = k} {n₂ = 7} {m₂ = 16384} (omega arith) i
+-- x|q| for x below the most frames
+pub whole-le : (x k : ℕ) → x < mostFrames → k ≤ 16384 → x * k ≤ (mostFrames - 1) * 16384
+whole-le x k h i = mul-le-mul {n₁ = x} {m₁ = k} {n₂ = mostFrames - 1} {m₂ = 16384} (omega arith) i
 
-pub part-fits : (a F x : ℕ) → 0 < F → F ≤ 8 → x < 8 → x * addedOf a F ≤ 56
-part-fits a F x h i j = mul-le-mul {n₁ = x} {n₂ = 7} {m₂ = 8} (omega arith) (le-trans (added-le a F h) i)
-
--- e
-pub start-is : (n m tti frame f x p R k : ℕ) (less b : Bool) (s : List ℕ) → f ≡ framesIn tti → R ≡ remainderOf (signedBy less m) n → signedBy b k ≡ qOf n R → s ≡ filled (signedBy b k) f x → x ≡ f → p ≡ columnAt tti (frame % f) → (2 * getD s p 0 * m + 1) % (2 * n) ≡ startOf n (signedBy less m) tti frame
-unfolding startOf S
-start-is n m tti frame f x p R k less b s ef eR eq es ex ep =
-    rw (← eR, ← eq, magnitude, es, ex, ep, ef) refl
-
-pub product-le : (S m : ℕ) → S ≤ 131072 → m ≤ 60000 → 2 * S * m ≤ 15728640000
-product-le S m h i = mul-le-mul {n₁ = 2 * S} {m₁ = m} {n₂ = 262144} {m₂ = 60000} (omega arith) i
+pub part-fits : (a F x : ℕ) → 0 < F → F ≤ mostFrames → x < mostFrames → x * addedOf a F ≤ (mostFrames - 1) * mostFrames
+part-fits a F x h i j = mul-le-mul {n₁ = x} {n₂ = mostFrames - 1} {m₂ = mostFrames} (omega arith) (le-trans (added-le a F h) i)

@@ -5,6 +5,7 @@ use Prim.Native.Nat.{ℕ, zero, suc, _+_, _*_, _/_, _%_}
 use lib.Dec.{eqb, leb}
 use lib.IntN.{ℤ, pos, natAbs, _+ℤ_, _-ℤ_, _*ℤ_}
 use lib.ListN.{getD, set, replicate}
+use Rattle.sheet.specs.Counts.{mostFrames}
 use Rattle.sheet.specs.Sizes.{framesIn}
 use Rattle.orders.specs.Orders.{columnAt}
 use Rattle.offset.specs.Ints.{floorDiv, ceilOver, modOver}
@@ -40,7 +41,7 @@ yOf q F x = natAbs (floorDiv (pos x *ℤ qF q F) F)
 
 -- S after x = 0 to k-1: S[y mod F] = y div F, kept by a column's number before the permutation
 unfoldable pub filled : ℤ → ℕ → ℕ → List ℕ
-filled q F zero = replicate 8 0
+filled q F zero = replicate mostFrames 0
 filled q F (suc x) = set (filled q F x) (yOf q F x % F) (yOf q F x / F)
 
 -- S: x = 0 to F-1

@@ -9,7 +9,7 @@ use lib.Seq.{length-take-le, getD-take}
 use lib.Dec.{T, eqb, eqb→eq, ltb, ltb→lt, leb, leb→le}
 use borrow.Author.Tests.{lt-ltb}
 use Rattle.laws.proofs.TestLaws.{both, both-left, both-right, below, below-at, implies, implied}
-use Rattle.sheet.specs.Counts.{mostTti}
+use Rattle.sheet.specs.Counts.{mostTti, mostFrames}
 use Rattle.sheet.specs.Sizes.{framesIn}
 use Rattle.orders.specs.Orders.{orders, columnAt, rowOf, order, turnOf}
 
@@ -17,37 +17,37 @@ swaps : ℕ → ℕ → Bool
 swaps r c = implies (ltb c (framesIn r)) (both (ltb (columnAt r c) (framesIn r)) (eqb (columnAt r (columnAt r c)) c))
 
 small : ℕ → ℕ → Bool
-small r c = ltb (columnAt r c) 8
+small r c = ltb (columnAt r c) mostFrames
 
 rows : ℕ → Bool
 rows r =
-    both (both (ltb 0 (framesIn r)) (leb (framesIn r) 8)) (both (eqb (length (getD orders r [])) 8) (both (below (swaps r) 8) (below (small r) 8)))
+    both (both (ltb 0 (framesIn r)) (leb (framesIn r) mostFrames)) (both (eqb (length (getD orders r [])) mostFrames) (both (below (swaps r) mostFrames) (below (small r) mostFrames)))
 
 row : (r : ℕ) → r ≤ mostTti → T (rows r)
 unfolding rows swaps small implies both below orders columnAt
 row r h = below-at rows 4 tt r (omega arith)
 
-pub frames-bounds : (r : ℕ) → r ≤ mostTti → (0 < framesIn r) × (framesIn r ≤ 8)
+pub frames-bounds : (r : ℕ) → r ≤ mostTti → (0 < framesIn r) × (framesIn r ≤ mostFrames)
 unfolding rows
 frames-bounds r h =
-    let t = both-left (both (ltb 0 (framesIn r)) (leb (framesIn r) 8)) _ (row r h) in
-    (ltb→lt 0 (framesIn r) (both-left _ (leb (framesIn r) 8) t), leb→le (framesIn r) 8 (both-right (ltb 0 (framesIn r)) _ t))
+    let t = both-left (both (ltb 0 (framesIn r)) (leb (framesIn r) mostFrames)) _ (row r h) in
+    (ltb→lt 0 (framesIn r) (both-left _ (leb (framesIn r) mostFrames) t), leb→le (framesIn r) mostFrames (both-right (ltb 0 (framesIn r)) _ t))
 
-entries : (r : ℕ) → r ≤ mostTti → T (both (below (swaps r) 8) (below (small r) 8))
+entries : (r : ℕ) → r ≤ mostTti → T (both (below (swaps r) mostFrames) (below (small r) mostFrames))
 unfolding rows
 entries r h =
-    both-right (eqb (length (getD orders r [])) 8) _ (both-right (both (ltb 0 (framesIn r)) (leb (framesIn r) 8)) _ (row r h))
+    both-right (eqb (length (getD orders r [])) mostFrames) _ (both-right (both (ltb 0 (framesIn r)) (leb (framesIn r) mostFrames)) _ (row r h))
 
-pub column-small : (r c : ℕ) → r ≤ mostTti → c < 8 → columnAt r c < 8
+pub column-small : (r c : ℕ) → r ≤ mostTti → c < mostFrames → columnAt r c < mostFrames
 unfolding small
-column-small r c h k = ltb→lt (columnAt r c) 8 (below-at (small r) 8 (both-right (below (swaps r) 8) _ (entries r h)) c k)
+column-small r c h k = ltb→lt (columnAt r c) mostFrames (below-at (small r) mostFrames (both-right (below (swaps r) mostFrames) _ (entries r h)) c k)
 
 -- P(n) is below F, and P(P(n)) = n
 pub column-swaps : (r c : ℕ) → r ≤ mostTti → c < framesIn r → (columnAt r c < framesIn r) × (columnAt r (columnAt r c) ≡ c)
 unfolding swaps
 column-swaps r c h k =
     let b = frames-bounds r h in
-    let t = below-at (swaps r) 8 (both-left _ (below (small r) 8) (entries r h)) c (omega arith) in
+    let t = below-at (swaps r) mostFrames (both-left _ (below (small r) mostFrames) (entries r h)) c (omega arith) in
     let u =
     implied (ltb c (framesIn r)) (both (ltb (columnAt r c) (framesIn r)) (eqb (columnAt r (columnAt r c)) c)) t (lt-ltb c (framesIn r) k)
     in (
@@ -58,8 +58,8 @@ column-swaps r c h k =
 pub length-row : (r : ℕ) → r ≤ mostTti → length (rowOf r) ≡ framesIn r
 unfolding rowOf rows
 length-row r h =
-    let t = both-left _ (both (below (swaps r) 8) (below (small r) 8)) (both-right (both (ltb 0 (framesIn r)) (leb (framesIn r) 8)) _ (row r h)) in
-    let q : length (getD orders r []) ≡ 8 = eqb→eq (length (getD orders r [])) 8 t in
+    let t = both-left _ (both (below (swaps r) mostFrames) (below (small r) mostFrames)) (both-right (both (ltb 0 (framesIn r)) (leb (framesIn r) mostFrames)) _ (row r h)) in
+    let q : length (getD orders r []) ≡ mostFrames = eqb→eq (length (getD orders r [])) mostFrames t in
     length-take-le (framesIn r) (getD orders r []) (omega (arith, frames-bounds r h .1))
 
 pub row-at : (r n : ℕ) → n < framesIn r → getD (rowOf r) n 0 ≡ columnAt r n

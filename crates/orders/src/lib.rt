@@ -3,11 +3,12 @@ ghost use mathlib.Core.Path.{_≡_};
 ghost use mathlib.Core.List.{[]};
 ghost use Prim.Native.Nat.{_≤_, _<_};
 ghost use lib.ListN.{getD};
-ghost use Rattle.sheet.specs.Counts.{mostTti};
+ghost use Rattle.sheet.specs.Counts.{mostTti, mostFrames};
 ghost use Rattle.orders.specs.Orders.{orders, columnAt, order};
+use sheet::counts::FRAMES;
 
-// Step 2: one row for each TTI, filled to eight.
-pub const ORDERS: [[u8; 8]; 4] = [
+// Step 2: one row for each TTI, filled to the frames of the longest.
+pub const ORDERS: [[u8; FRAMES]; 4] = [
     [0, 0, 0, 0, 0, 0, 0, 0],
     [0, 1, 0, 0, 0, 0, 0, 0],
     [0, 2, 1, 3, 0, 0, 0, 0],
@@ -49,22 +50,22 @@ pub const ORDER: [u8; 30] = [
 ];
 
 fn entry(tti: usize, n: usize) -> u8
-    requires { ⌜ (tti ≤ mostTti) × (n < 8) ⌝ }
-    ensures { λ r. ⌜ (r ≡ columnAt tti n) × (r < 8) ⌝ }
+    requires { ⌜ (tti ≤ mostTti) × (n < mostFrames) ⌝ }
+    ensures { λ r. ⌜ (r ≡ columnAt tti n) × (r < mostFrames) ⌝ }
 {
     ORDERS[tti][n]
 }
 
 // P(n): entry n of the TTI's row.
 pub fn column(tti: usize, n: usize) -> usize
-    requires { ⌜ (tti ≤ mostTti) × (n < 8) ⌝ }
-    ensures { λ r. ⌜ (r ≡ columnAt tti n) × (r < 8) ⌝ }
+    requires { ⌜ (tti ≤ mostTti) × (n < mostFrames) ⌝ }
+    ensures { λ r. ⌜ (r ≡ columnAt tti n) × (r < mostFrames) ⌝ }
 {
     entry(tti, n) as usize
 }
 
 // The TTI's row as a local: an index into the constant would lay the whole table down anew at each use in a loop.
-pub fn row(tti: usize) -> [u8; 8]
+pub fn row(tti: usize) -> [u8; FRAMES]
     requires { ⌜ tti ≤ mostTti ⌝ }
     ensures { λ r. ⌜ r ≡ getD orders tti [] ⌝ }
 {

@@ -31,7 +31,7 @@ use Rattle.homing.specs.declared.receiving.Wanted.{Wanted}
 use Rattle.homing.specs.declared.receiving.Wanted.the-variants.{Bit, Channel}
 use Rattle.homing.proofs.ReceiveLaws.{heard-at, link-in}
 use Rattle.looking.specs.Looking.{frameLines, noTrch, lookLines, indexed, lookAnswer, Begun}
-use Rattle.looking.proofs.LookLaws.{trch-there, Early, early-numbered, early-below, early-more, early-frame, begun-fields, either-left}
+use Rattle.looking.proofs.LookLaws.{trch-there, Early, early-numbered, early-not, early-more, early-frame, begun-fields, either-left}
 use Rattle.receiving.specs.Listening.{noBit, heardAnswer, numbers, heardNumbers, linkAnswer}
 use Rattle.receiving.specs.Listened.{missing, listenLines, unheard, listenedMade, listenedOf}
 use Rattle.receiving.specs.declared.listening.HeardAnswer.{HeardAnswer}
@@ -92,7 +92,7 @@ module _ (s : List ℕ) (number : ℕ) (frame : List Float) (w : Wanted) (a : Op
   answer = listenedOf s number frame w
 
   early : Early head
-  early = early-more (missing (sheetOf s) w) 10 (early-frame s number) (omega arith) (omega arith)
+  early = early-more (missing (sheetOf s) w) 10 (early-frame s number) (omega arith) (λ q. omega arith)
 
   made : {n at : ℕ} {r : Reception} → n ≡ whole → at ≡ indexed whole (firstOut frame) → r ≡ given whole (found (sheetOf s)) unheard
       → listenedMade n at r ≡ answer
@@ -102,7 +102,7 @@ module _ (s : List ℕ) (number : ℕ) (frame : List Float) (w : Wanted) (a : Op
   refuses : {n : ℕ} → n ≡ firstOf head → (n ≡ 0 → ⊥) → listenedMade n 0 unheard ≡ answer
   refuses {n} e z =
       let f : n ≡ whole = e ∙ first-append head tail (λ q. z (e ∙ q)) in
-      let twelve : whole ≡ 12 → ⊥ = λ q. omega (arith, early-below early) in
+      let twelve : whole ≡ 12 → ⊥ = λ q. early-not early (sym e ∙ f ∙ q) in
       made f (sym (ap (λ (x : Bool). cond x (firstOut frame) 0) (ne-eqb whole 12 twelve)))
       (sym (given-no whole (found (sheetOf s)) unheard (λ q. z (f ∙ q))))
 

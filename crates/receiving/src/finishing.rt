@@ -2,6 +2,7 @@
 ghost use mathlib.Core.Path.{_≡_};
 ghost use Prim.Native.Nat.{_*_, _≤_, _<_};
 ghost use lib.ListN.{length};
+ghost use Rattle.sheet.specs.Counts.{mostFrames};
 ghost use Rattle.sheet.specs.Fields.{encodedOf};
 ghost use Rattle.sheet.specs.Sizes.{equalisedAll};
 ghost use Rattle.sheet.specs.Range.{Ranged};
@@ -23,7 +24,7 @@ use sheet::wide;
 // Where channel i begins in the buffer: the sum of T_i before it.
 fn channel_start(fields: Sheet, i: usize) -> usize
     requires { ⌜ Ranged fields × (i < fields .channels) ⌝ }
-    ensures { λ r. ⌜ (r ≡ channelStart fields i) × (r ≤ 524280 * i) ⌝ }
+    ensures { λ r. ⌜ (r ≡ channelStart fields i) × (r ≤ mostFrames * 65535 * i) ⌝ }
 {
     let mut sum: u64 = 0;
     let mut j: usize = 0;

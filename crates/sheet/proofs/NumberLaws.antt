@@ -1,19 +1,20 @@
 -- What the number 0 says of a sheet, and the answers of reading.
-use mathlib.Core.Path.{_≡_, sym, ap, ap₂, _∙_}
+use mathlib.Core.Path.{_≡_, refl, sym, ap, ap₂, _∙_}
 use mathlib.Core.Bool.{Bool, false, not, _||_}
 use mathlib.Core.List.{List}
-use Prim.Native.Nat.{ℕ, _-_, _*_}
+use Prim.Native.Nat.{ℕ, _+_, _-_, _*_}
+use native.Mathlib.Omega.{arith}
 use borrow.Author.Tests.{eq-eqb, ne-eqb, eqb-true, eqb-false, not-false}
-use lib.Dec.{ltb, eqb, lit<}
+use lib.Dec.{ltb, eqb}
 use lib.ListN.{length}
 use Rattle.laws.specs.Sums.{anyTo}
 use Rattle.laws.proofs.TestLaws.{or-left, or-right}
 use Rattle.counters.specs.Lines.{firstOf, given}
-use Rattle.counters.proofs.LineLaws.{Numbered, none, more, pass-zero, given-yes, given-no}
-use Rattle.bits.specs.Bits.{bitsAt}
+use Rattle.counters.proofs.LineLaws.{Numbered, numbered-of, clear-of, clear-at, pass-zero, given-yes, given-no}
+use Rattle.bits.specs.Bits.{val, bitsAt}
 use Rattle.sheet.specs.Counts.{mostBits}
 use Rattle.sheet.specs.Layout.{spareAt, spareWidth}
-use Rattle.sheet.specs.Fields.{sheetOf, blank, phchsOf, capacityOf}
+use Rattle.sheet.specs.Fields.{headIn, sparesIn, sheetOf, blank, phchsOf, capacityOf}
 use Rattle.sheet.specs.Sizes.{equalisedAll, capacityAll, bitsNeeded, bytesNeeded}
 use Rattle.sheet.specs.Numbers.{emptyPlace, silent, misfit, loadLines, readLines, readNumber, readAnswer}
 use Rattle.sheet.specs.declared.Sheet.{Sheet}
@@ -24,7 +25,7 @@ abbrev pub wrongLength : List ℕ → Bool
 wrongLength s = not (eqb (length s) (bytesNeeded (sheetOf s)))
 
 abbrev pub spareSet : List ℕ → Bool
-spareSet s = not (eqb (bitsAt s spareAt spareWidth) 0)
+spareSet s = not (eqb (sparesIn s) 0)
 
 abbrev pub paddingSet : List ℕ → Bool
 paddingSet s = not (eqb (bitsAt s (bitsNeeded (sheetOf s)) (8 * length s - bitsNeeded (sheetOf s))) 0)
@@ -32,11 +33,19 @@ paddingSet s = not (eqb (bitsAt s (bitsNeeded (sheetOf s)) (8 * length s - bitsN
 abbrev pub emptySlot : Sheet → ℕ → Bool
 emptySlot sh t = anyTo (λ p. eqb (capacityOf sh t p) 0) (phchsOf sh t)
 
-pub load-numbered : (sh : Sheet) → Numbered (loadLines sh)
-load-numbered sh = more (lit< tt) (more (lit< tt) (more (lit< tt) (more (lit< tt) none)))
+-- the spare bits at once: they are 0 where each of them is
+at-once : (s : List ℕ) → bitsAt s spareAt spareWidth ≡ 8 * headIn s 4 + 4 * headIn s 5 + 2 * headIn s 6 + headIn s 7
+unfolding val
+at-once s = omega arith
+
+pub spares-none : (s : List ℕ) → bitsAt s spareAt spareWidth ≡ 0 → sparesIn s ≡ 0
+spares-none s h = omega (arith, at-once s)
+
+pub none-spare : (s : List ℕ) → sparesIn s ≡ 0 → bitsAt s spareAt spareWidth ≡ 0
+none-spare s h = omega (arith, at-once s)
 
 pub read-numbered : (s : List ℕ) → Numbered (readLines s)
-read-numbered s = more (lit< tt) (more (lit< tt) (more (lit< tt) (more (lit< tt) (load-numbered (sheetOf s)))))
+read-numbered s = numbered-of (readLines s) refl
 
 -- what the lines from 5 on leave
 pub record Loads (sh : Sheet) : Type 0 where
@@ -47,11 +56,8 @@ pub record Loads (sh : Sheet) : Type 0 where
 
 pub loads-zero : (sh : Sheet) → firstOf (loadLines sh) ≡ 0 → Loads sh
 loads-zero sh h =
-    let a = pass-zero (emptyPlace sh) 4 _ h in
-    let b = pass-zero (ltb mostBits (equalisedAll sh)) 5 _ (a .1) in
-    let c = pass-zero (ltb mostBits (capacityAll sh)) 6 _ (b .1) in
-    let d = pass-zero (silent sh) 7 0 (c .1) in
-    record { places = a .0; sizes = b .0; capacity = c .0; heard = d .0 }
+    let c = clear-of (numbered-of (loadLines sh) refl) h in
+    record { places = clear-at 5 c; sizes = clear-at 6 c; capacity = clear-at 7 c; heard = clear-at 8 c }
 
 -- what an accepted sheet has
 pub record Readable (s : List ℕ) : Type 0 where
@@ -59,7 +65,7 @@ pub record Readable (s : List ℕ) : Type 0 where
   pub version : sheetOf s .version ≡ 1
   pub some : sheetOf s .slots ≡ 0 → ⊥
   pub exact : length s ≡ bytesNeeded (sheetOf s)
-  pub spare : bitsAt s spareAt spareWidth ≡ 0
+  pub spare : sparesIn s ≡ 0
   pub padding : bitsAt s (bitsNeeded (sheetOf s)) (8 * length s - bitsNeeded (sheetOf s)) ≡ 0
   pub loads : firstOf (loadLines (sheetOf s)) ≡ 0
 
@@ -76,7 +82,7 @@ readable s h =
       version = eqb-true (sh .version) 1 (not-false _ (b .0));
       some = eqb-false (sh .slots) 0 (c .0);
       exact = eqb-true (length s) (bytesNeeded sh) (not-false _ (or-left (wrongLength s) (spareSet s || paddingSet s) (d .0)));
-      spare = eqb-true (bitsAt s spareAt spareWidth) 0 (not-false _ (or-left (spareSet s) (paddingSet s) m));
+      spare = eqb-true (sparesIn s) 0 (not-false _ (or-left (spareSet s) (paddingSet s) m));
       padding = eqb-true _ 0 (not-false _ (or-right (spareSet s) (paddingSet s) m));
       loads = d .1;
     }
@@ -87,7 +93,7 @@ number-zero s r =
     let e3 : eqb (sheetOf s .slots) 0 ≡ false = ne-eqb (sheetOf s .slots) 0 (r .some) in
     let e4 : misfit s ≡ false =
     ap₂ _||_ (ap not (eq-eqb (length s) (bytesNeeded (sheetOf s)) (r .exact)))
-    (ap₂ _||_ (ap not (eq-eqb (bitsAt s spareAt spareWidth) 0 (r .spare))) (ap not (eq-eqb _ 0 (r .padding))))
+    (ap₂ _||_ (ap not (eq-eqb (sparesIn s) 0 (r .spare))) (ap not (eq-eqb _ 0 (r .padding))))
     in
     simp (r .long, e2, e3, e4) (r .loads)
 

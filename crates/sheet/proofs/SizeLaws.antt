@@ -7,10 +7,10 @@ use native.Mathlib.Numerals.{add-one}
 use native.Mathlib.Omega.{arith}
 use native.Mathlib.Decide.{ℕ-discrete}
 use borrow.Author.Tests.{eq-eqb, ne-eqb}
-use lib.Pow.{pow-mono}
+use lib.Pow.{pow-mono, pow-pos}
 use Rattle.laws.specs.Sums.{anyTo}
 use Rattle.laws.proofs.SumLaws.{sum-most}
-use Rattle.sheet.specs.Counts.{mostSlots, mostCodes, mostTti, longestSheet}
+use Rattle.sheet.specs.Counts.{mostSlots, mostCodes, mostTti, mostFrames, mostNeeded, longestSheet}
 use Rattle.sheet.specs.Layout.{slotWidth}
 use Rattle.sheet.specs.Fields.{phchsOf}
 use Rattle.sheet.specs.Sizes.{framesIn, segmentIn, slotCapacity, placesAll, subframesOf, capacityAll, bitsNeeded, bytesNeeded}
@@ -22,6 +22,9 @@ use Rattle.sheet.specs.declared.Sheet.{Sheet}
 -- 1 << tti
 pub shifted : (tti : ℕ) → tti ≤ mostTti → 1 * 2 ^ tti % 18446744073709551616 ≡ framesIn tti
 shifted tti h = ap (λ (y : ℕ). y % 18446744073709551616) (one-mul (2 ^ tti)) ∙ mod-eq-of-lt (omega (arith, pow-mono h))
+
+pub frames-are : (tti : ℕ) → tti ≤ mostTti → let r = 1 * 2 ^ tti % 18446744073709551616 in (r ≡ framesIn tti) × (1 ≤ r) × (r ≤ mostFrames)
+frames-are tti h = let e = shifted tti h in (e, omega (arith, e, pow-pos tti), omega (arith, e, pow-mono h))
 
 pub size-none : (e f : ℕ) → e ≡ 0 → 0 ≡ segmentIn e f
 size-none e f h = sym (ap (λ (b : Bool). cond b 0 ((e - 1) / f + 1)) (eq-eqb e 0 h))
@@ -68,9 +71,9 @@ pub load-sum : (sh : Sheet) (t : ℕ) {n : ℕ} {load : Load} → n ≡ phchsOf 
 load-sum sh t e h = ap (λ (x : Load). x .sum) (h ∙ ap (slotLoad (sh .caps) (mostCodes * t)) e)
 
 -- the longest sheet
-pub need-most : (sh : Sheet) → Ranged sh → bitsNeeded sh ≤ 3148
+pub need-most : (sh : Sheet) → Ranged sh → bitsNeeded sh ≤ mostNeeded
 need-most sh r =
-    let b = sum-most (λ t. slotWidth (phchsOf sh t)) 196 (sh .slots) (λ t l. omega (arith, r .phch16 t l)) in
+    let b = sum-most (λ t. slotWidth (phchsOf sh t)) (slotWidth mostCodes) (sh .slots) (λ t l. omega (arith, r .phch16 t l)) in
     omega (arith, r .fifteen, r .eight)
 
 pub bytes-most : (sh : Sheet) → Ranged sh → bytesNeeded sh ≤ longestSheet

@@ -1,5 +1,6 @@
 -- The counts of document 01, each said once.
-use Prim.Native.Nat.{ℕ, _*_}
+use Prim.Native.Nat.{ℕ, _+_, _*_, _/_, _^_}
+use Rattle.sheet.specs.Layout.{channelAt, slotWidth}
 
 -- transport channels, slots, and physical channels (codes) of a slot
 abbrev pub mostChannels : ℕ
@@ -22,6 +23,10 @@ mostBits = 60000
 abbrev pub mostTti : ℕ
 mostTti = 3
 
+-- the frames of the longest TTI
+abbrev pub mostFrames : ℕ
+mostFrames = 2 ^ mostTti
+
 abbrev pub mostEncoded : ℕ
 mostEncoded = 16383
 
@@ -31,6 +36,9 @@ mostRatio = 256
 abbrev pub mostCapacity : ℕ
 mostCapacity = 4095
 
--- the bytes of the longest sheet
+-- the bits that the fields of the longest sheet need, and its bytes
+abbrev pub mostNeeded : ℕ
+mostNeeded = channelAt mostChannels + slotWidth mostCodes * mostSlots
+
 abbrev pub longestSheet : ℕ
-longestSheet = 394
+longestSheet = (mostNeeded + 7) / 8

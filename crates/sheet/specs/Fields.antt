@@ -19,6 +19,10 @@ channelsIn s = headIn s 2 + 1
 abbrev pub slotsIn : List ℕ → ℕ
 slotsIn s = headIn s 3
 
+-- the bits of the head that are spare, added up: 0 where none is set
+abbrev pub sparesIn : List ℕ → ℕ
+sparesIn s = headIn s 4 + headIn s 5 + headIn s 6 + headIn s 7
+
 -- TTI, E and RM of channel i of the bytes
 abbrev pub ttiIn : List ℕ → ℕ → ℕ
 ttiIn s i = bitsAt s (channelAt i) ttiWidth

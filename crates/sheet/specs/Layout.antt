@@ -1,11 +1,11 @@
 -- How wide the fields of a sheet are, in bits, and where they stand: the table of document 01, 'The format sheet'.
 use mathlib.Core.List.{List, [], _∷_}
-use Prim.Native.Nat.{ℕ, zero, suc, _+_, _*_}
+use Prim.Native.Nat.{ℕ, zero, suc, _+_, _-_, _*_}
 use lib.ListN.{getD}
 
--- the head: version, mode, I-1, T, spare
+-- the head: version, mode, I-1, T, and four bits that are spare
 abbrev pub headWidths : List ℕ
-headWidths = 4 ∷ 1 ∷ 3 ∷ 4 ∷ 4 ∷ []
+headWidths = 4 ∷ 1 ∷ 3 ∷ 4 ∷ 1 ∷ 1 ∷ 1 ∷ 1 ∷ []
 
 -- the first k of some widths, added up: the bit at which field k begins
 abbrev pub widthTo : List ℕ → ℕ → ℕ
@@ -31,7 +31,7 @@ capacityWidth = 12
 
 -- the bit at which channel i begins, counted from 0; with i channels, the bit at which the first slot begins
 abbrev pub channelAt : ℕ → ℕ
-channelAt i = widthTo headWidths 5 + (ttiWidth + encodedWidth + ratioWidth) * i
+channelAt i = widthTo headWidths 8 + (ttiWidth + encodedWidth + ratioWidth) * i
 
 -- the bits of a slot of p physical channels, and the bit, counted from the slot's first, at which its capacity p begins
 abbrev pub slotWidth : ℕ → ℕ
@@ -62,11 +62,9 @@ slotsAt = widthTo headWidths 3
 abbrev pub slotsWidth : ℕ
 slotsWidth = getD headWidths 3 0
 
+-- the spare bits, as the code reads and writes them at once
 abbrev pub spareAt : ℕ
 spareAt = widthTo headWidths 4
 
 abbrev pub spareWidth : ℕ
-spareWidth = getD headWidths 4 0
-
-abbrev pub headWidth : ℕ
-headWidth = widthTo headWidths 5
+spareWidth = widthTo headWidths 8 - spareAt

@@ -1,5 +1,5 @@
-pub mod Counts
 pub mod Layout
+pub mod Counts
 pub mod Fields
 pub mod Reading
 pub mod Sizes

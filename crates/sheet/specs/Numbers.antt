@@ -1,4 +1,4 @@
--- The lines 1 to 8 of the table of numbers, and what reading a sheet answers.
+-- The lines of the table of numbers that a sheet alone has, 1 to 8, and what reading a sheet answers.
 use mathlib.Core.Bool.{Bool, not, _||_}
 use mathlib.Core.List.{List, [], _∷_}
 use Prim.Native.Nat.{ℕ, _+_, _-_, _*_}
@@ -8,7 +8,7 @@ use Rattle.laws.specs.Sums.{sumTo, anyTo}
 use Rattle.counters.specs.Lines.{Line, line, firstOf, given}
 use Rattle.bits.specs.Bits.{bitsAt}
 use Rattle.sheet.specs.Counts.{mostCodes, mostBits}
-use Rattle.sheet.specs.Fields.{headIn, sheetOf, blank, encodedOf, phchsOf, capacityOf}
+use Rattle.sheet.specs.Fields.{sparesIn, sheetOf, blank, encodedOf, phchsOf, capacityOf}
 use Rattle.sheet.specs.Sizes.{equalisedAll, placesAll, capacityAll, bitsNeeded, bytesNeeded}
 use Rattle.sheet.specs.declared.sizes.Load.{Load}
 use Rattle.sheet.specs.declared.Sheet.{Sheet}
@@ -18,7 +18,7 @@ use Rattle.sheet.specs.declared.SheetAnswer.{SheetAnswer}
 abbrev pub misfit : List ℕ → Bool
 misfit s =
     not (eqb (length s) (bytesNeeded (sheetOf s)))
-    || (not (eqb (headIn s 4) 0) || not (eqb (bitsAt s (bitsNeeded (sheetOf s)) (8 * length s - bitsNeeded (sheetOf s))) 0))
+    || (not (eqb (sparesIn s) 0) || not (eqb (bitsAt s (bitsNeeded (sheetOf s)) (8 * length s - bitsNeeded (sheetOf s))) 0))
 
 -- 5: a capacity is 0
 abbrev pub emptyPlace : Sheet → Bool
@@ -44,7 +44,7 @@ loadOf sh = record { empty = emptyPlace sh; sum = placesAll sh }
 abbrev pub silent : Sheet → Bool
 silent sh = not (anyTo (λ i. not (eqb (encodedOf sh i) 0)) (sh .channels))
 
--- the lines from 5 on, which look at fields alone
+-- the lines from 5 on, which look at fields alone: every list of a sheet's lines ends with them
 abbrev pub loadLines : Sheet → List Line
 loadLines sh =
     line (emptyPlace sh) 5 ∷

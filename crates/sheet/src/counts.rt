@@ -1,4 +1,8 @@
 // The counts of document 01, each said once; specs/Counts.antt has the same for the definitions.
+use crate::layout::CAPACITY_WIDTH;
+use crate::layout::CHANNEL_WIDTH;
+use crate::layout::CODES_WIDTH;
+use crate::layout::HEAD_WIDTH;
 
 // Transport channels, slots, and physical channels (codes) of a slot.
 pub const CHANNELS: usize = 8;
@@ -15,11 +19,18 @@ pub const MOST_BITS: u64 = 60000;
 // The ranges of a channel's fields and of a capacity.
 pub const MOST_TTI: u16 = 3;
 
+// The frames of the longest TTI.
+pub const FRAMES: usize = 8;
+
 pub const MOST_ENCODED: u16 = 16383;
 
 pub const MOST_RATIO: u16 = 256;
 
 pub const MOST_CAPACITY: u16 = 4095;
 
-// The bytes of the longest sheet.
-pub const LONGEST: usize = 394;
+// The bits that the fields of the longest sheet need, and its bytes.
+pub const MOST_NEEDED: usize = HEAD_WIDTH
+    + CHANNEL_WIDTH * CHANNELS
+    + (CODES_WIDTH + CAPACITY_WIDTH * CODES) * SLOTS;
+
+pub const LONGEST: usize = (MOST_NEEDED + 7) / 8;

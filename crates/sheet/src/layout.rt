@@ -1,6 +1,6 @@
 // Where the fields of a sheet stand in its bits, and how wide they are; specs/Layout.antt has the same for the definitions.
 
-// The head: version, mode, I-1, T, spare.
+// The head: version, mode, I-1, T, and four bits that are spare, which are read and written at once.
 pub const VERSION_AT: usize = 0;
 
 pub const VERSION_WIDTH: usize = 4;

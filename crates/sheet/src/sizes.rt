@@ -3,7 +3,7 @@ ghost use mathlib.Core.Path.{_≡_};
 ghost use mathlib.Core.Bool.{_||_};
 ghost use Prim.Native.Nat.{ℕ, _+_, _*_, _≤_, _<_};
 ghost use lib.ListN.{getD};
-ghost use Rattle.sheet.specs.Counts.{mostChannels, mostSlots, mostCodes, mostCapacities, mostTti, longestSheet};
+ghost use Rattle.sheet.specs.Counts.{mostChannels, mostSlots, mostCodes, mostCapacities, mostTti, mostFrames, mostNeeded, longestSheet};
 ghost use Rattle.sheet.specs.Sizes.{framesIn, segmentIn, encodedAll, equalisedAll, bitsNeeded, bytesNeeded};
 ghost use Rattle.sheet.specs.Numbers.{slotLoad, wholeLoad};
 ghost use Rattle.sheet.specs.Range.{Ranged};
@@ -27,7 +27,7 @@ pub struct Load {
 // F of a TTI.
 pub fn frames(tti: u16) -> u64
     requires { ⌜ tti ≤ mostTti ⌝ }
-    ensures { λ r. ⌜ (r ≡ framesIn tti) × (1 ≤ r) × (r ≤ 8) ⌝ }
+    ensures { λ r. ⌜ (r ≡ framesIn tti) × (1 ≤ r) × (r ≤ mostFrames) ⌝ }
 {
     1u64 << tti
 }
@@ -47,7 +47,7 @@ pub fn segment(e: u16, tti: u16) -> u64
 // T_i = F x N.
 pub fn equalised(e: u16, tti: u16) -> u64
     requires { ⌜ tti ≤ mostTti ⌝ }
-    ensures { λ r. ⌜ (r ≡ framesIn tti * segmentIn e (framesIn tti)) × (r ≤ 524280) ⌝ }
+    ensures { λ r. ⌜ (r ≡ framesIn tti * segmentIn e (framesIn tti)) × (r ≤ mostFrames * 65535) ⌝ }
 {
     let f = frames(tti);
     let n = segment(e, tti);
@@ -116,7 +116,7 @@ pub fn slot_load(caps: &[u16; CAPACITIES], from: usize, n: usize) -> Load
 // What the capacities of n slots come to.
 pub fn whole_load<'a>(phchs: &'a [u16; SLOTS], caps: &'a [u16; CAPACITIES], n: usize) -> Load
     requires { ⌜ (n ≤ mostSlots) × ((t : ℕ) → t < n → getD (now phchs) t 0 ≤ mostCodes) ⌝ }
-    ensures { λ r. ⌜ (r ≡ wholeLoad (now (phchs .entry)) (now (caps .entry)) n) × (r .sum ≤ 15728400) ⌝ }
+    ensures { λ r. ⌜ (r ≡ wholeLoad (now (phchs .entry)) (now (caps .entry)) n) × (r .sum ≤ 65535 * mostCapacities) ⌝ }
 {
     let mut empty = false;
     let mut sum: u64 = 0;
@@ -133,7 +133,7 @@ pub fn whole_load<'a>(phchs: &'a [u16; SLOTS], caps: &'a [u16; CAPACITIES], n: u
 // The bits that the fields need.
 pub fn bits_needed(fields: Sheet) -> usize
     requires { ⌜ Ranged fields ⌝ }
-    ensures { λ r. ⌜ (r ≡ bitsNeeded fields) × (r ≤ 3148) ⌝ }
+    ensures { λ r. ⌜ (r ≡ bitsNeeded fields) × (r ≤ mostNeeded) ⌝ }
 {
     let n = count(fields.slots);
     let phchs = fields.phchs;

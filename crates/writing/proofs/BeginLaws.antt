@@ -1,22 +1,23 @@
 -- Bits that begin with a list: fields are read from them, and they are made of the fields that are read.
-use mathlib.Core.Path.{_≡_, refl, sym, ap, _∙_, subst}
-use mathlib.Core.List.{List, [], _++_}
+use mathlib.Core.Path.{_≡_, sym, ap, _∙_, subst}
+use mathlib.Core.List.{List, _++_}
 use Prim.Native.Nat.{ℕ, zero, suc, _+_, _-_, _^_, _≤_, _<_}
 use native.Mathlib.Omega.{arith}
 use native.Mathlib.Decide.{decLt, ℕ-discrete}
 use lib.Arith.{lt-of-le-ne}
+use lib.Pow.{pow-pos}
 use lib.ListN.{length, getD, length-append, List·getD-append}
 use lib.Seq.{getD-append-add}
 use Rattle.laws.proofs.TableLaws.{table-at}
 use Rattle.bits.specs.Bits.{val, digit, field}
 use Rattle.bits.proofs.BitLaws.{val-field, field-after, digit-val}
-use Rattle.sheet.specs.Layout.{versionAt, versionWidth, modeAt, modeWidth, countAt, countWidth, slotsAt, slotsWidth, spareAt, spareWidth, ttiWidth, encodedWidth, ratioWidth, codesWidth, capacityWidth, channelAt, slotWidth}
+use Rattle.sheet.specs.Layout.{headWidths, widthTo, versionAt, versionWidth, modeAt, modeWidth, countAt, countWidth, slotsAt, slotsWidth, ttiWidth, encodedWidth, ratioWidth, codesWidth, capacityWidth, channelAt, slotWidth}
 use Rattle.sheet.specs.Fields.{ttiOf, encodedOf, ratioOf, phchsOf, capacityOf}
 use Rattle.sheet.specs.Sizes.{slotAt}
 use Rattle.sheet.specs.Range.{Ranged}
 use Rattle.sheet.specs.declared.Sheet.{Sheet}
-use Rattle.writing.specs.Written.{headBits, channelBits, capacityBits, slotsBits, sheetBits}
-use Rattle.writing.proofs.HoldLaws.{toVersion, toMode, toCount, toSlots, toTti, toEncoded, version-length, mode-length, count-length, slot-count-length, channel-length, tti-length, encoded-length, slots-length, caps-length}
+use Rattle.writing.specs.Written.{headValues, headTo, headBits, channelBits, capacityBits, slotsBits, sheetBits}
+use Rattle.writing.proofs.HoldLaws.{toTti, toEncoded, head-length, channel-length, tti-length, encoded-length, slots-length, caps-length}
 
 pub record Begins (f : ℕ → ℕ) (l : List ℕ) : Type 0 where
   pub bit : (i : ℕ) → i < length l → f i ≡ getD l i 0
@@ -68,6 +69,10 @@ module _ (sh : Sheet) (f : ℕ → ℕ) where
       begins-before (field ttiWidth (ttiOf sh i))
       (begins-before (field encodedWidth (encodedOf sh i)) (begins-before (field ratioWidth (ratioOf sh i - 1)) h))
 
+  head-less : (k : ℕ) → Begins f (headTo sh (suc k)) → Begins f (headTo sh k)
+  unfolding headTo
+  head-less k h = begins-before (field (getD headWidths k 0) (getD (headValues sh) k 0)) h
+
   capacity-less : (t : ℕ) (b : List ℕ) (p : ℕ) → Begins f (capacityBits sh t b (suc p)) → Begins f (capacityBits sh t b p)
   unfolding capacityBits
   capacity-less t b p h = begins-before (field capacityWidth (capacityOf sh t p)) h
@@ -107,34 +112,29 @@ module _ (sh : Sheet) (f : ℕ → ℕ) where
     head-begins : Begins f (headBits sh)
     head-begins = no-channel (channels-begin 0 (omega arith))
 
-    slots-next : Begins f (toSlots sh)
-    unfolding headBits
-    slots-next = begins-before (field spareWidth 0) head-begins
-
     -- the fields of a sheet in range are read from bits that begin with it
+    read-head : (k : ℕ) → k < 8 → getD (headValues sh) k 0 < 2 ^ getD headWidths k 0
+        → val f (widthTo headWidths k) (getD headWidths k 0) ≡ getD (headValues sh) k 0
+    unfolding headTo
+    read-head k l b =
+        begins-val f (headTo sh k) (widthTo headWidths k) (getD headWidths k 0) (getD (headValues sh) k 0) (head-length sh k) b
+        (chain-down f (headTo sh) head-less 8 (suc k) l head-begins)
+
     module _ (r : Ranged sh) (one : sh .version ≡ 1) where
       pub read-version : val f versionAt versionWidth ≡ sh .version
-      read-version =
-          begins-val f [] versionAt versionWidth (sh .version) refl (omega arith)
-          (begins-before (field modeWidth (sh .mode))
-          (begins-before (field countWidth (sh .channels - 1)) (begins-before (field slotsWidth (sh .slots)) slots-next)))
+      read-version = read-head 0 (omega arith) (omega arith)
 
       pub read-mode : val f modeAt modeWidth ≡ sh .mode
-      read-mode =
-          begins-val f (toVersion sh) modeAt modeWidth (sh .mode) (version-length sh) (omega (arith, r .mode))
-          (begins-before (field countWidth (sh .channels - 1)) (begins-before (field slotsWidth (sh .slots)) slots-next))
+      read-mode = read-head 1 (omega arith) (omega (arith, r .mode))
 
       pub read-count : val f countAt countWidth ≡ sh .channels - 1
-      read-count =
-          begins-val f (toMode sh) countAt countWidth (sh .channels - 1) (mode-length sh) (omega (arith, r .eight))
-          (begins-before (field slotsWidth (sh .slots)) slots-next)
+      read-count = read-head 2 (omega arith) (omega (arith, r .eight))
 
       pub read-slots : val f slotsAt slotsWidth ≡ sh .slots
-      read-slots = begins-val f (toCount sh) slotsAt slotsWidth (sh .slots) (count-length sh) (omega (arith, r .fifteen)) slots-next
+      read-slots = read-head 3 (omega arith) (omega (arith, r .fifteen))
 
-      pub read-spare : val f spareAt spareWidth ≡ 0
-      unfolding headBits
-      read-spare = begins-val f (toSlots sh) spareAt spareWidth 0 (slot-count-length sh) (omega arith) head-begins
+      pub read-spare : (k : ℕ) → k < 8 → getD (headValues sh) k 0 ≡ 0 → val f (widthTo headWidths k) (getD headWidths k 0) ≡ 0
+      read-spare k l z = read-head k l (subst (λ (x : ℕ). x < 2 ^ getD headWidths k 0) (sym z) (pow-pos (getD headWidths k 0))) ∙ z
 
       pub read-tti : (i : ℕ) → i < sh .channels → val f (channelAt i) ttiWidth ≡ ttiOf sh i
       unfolding channelBits

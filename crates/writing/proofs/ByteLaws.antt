@@ -14,10 +14,10 @@ use Rattle.counters.specs.declared.Answer.{Answer}
 use Rattle.counters.proofs.LineLaws.{given-yes, given-no}
 use Rattle.bits.specs.Bits.{digit, field}
 use Rattle.bits.proofs.BitLaws.{field-length}
-use Rattle.sheet.specs.Layout.{versionWidth, modeWidth, countWidth, slotsWidth, spareWidth, ttiWidth, encodedWidth, ratioWidth, codesWidth, capacityWidth}
+use Rattle.sheet.specs.Layout.{headWidths, ttiWidth, encodedWidth, ratioWidth, codesWidth, capacityWidth}
 use Rattle.sheet.specs.Fields.{phchsOf}
 use Rattle.sheet.specs.declared.Sheet.{Sheet}
-use Rattle.writing.specs.Written.{headBits, channelBits, capacityBits, slotsBits}
+use Rattle.writing.specs.Written.{headTo, channelBits, capacityBits, slotsBits}
 
 pub record Binary (l : List ℕ) : Type 0 where
   pub below : (i : ℕ) → getD l i 0 < 2
@@ -42,15 +42,14 @@ binary-more l w v h = record { below = λ i. side i (decLt i (length l)) }
         (field-binary w v .below (i - length l))
 
 module _ (sh : Sheet) where
-  head-binary : Binary (headBits sh)
-  unfolding headBits
-  head-binary =
-      binary-more _ spareWidth 0
-      (binary-more _ slotsWidth _ (binary-more _ countWidth _ (binary-more _ modeWidth _ (field-binary versionWidth (sh .version)))))
+  head-binary : (k : ℕ) → Binary (headTo sh k)
+  unfolding headTo
+  head-binary zero = record { below = λ i. lit< tt }
+  head-binary (suc k) = binary-more (headTo sh k) (getD headWidths k 0) _ (head-binary k)
 
   channel-binary : (i : ℕ) → Binary (channelBits sh i)
   unfolding channelBits
-  channel-binary zero = head-binary
+  channel-binary zero = head-binary 8
   channel-binary (suc i) = binary-more _ ratioWidth _ (binary-more _ encodedWidth _ (binary-more _ ttiWidth _ (channel-binary i)))
 
   capacity-binary : (t : ℕ) (b : List ℕ) (p : ℕ) → Binary b → Binary (capacityBits sh t b p)

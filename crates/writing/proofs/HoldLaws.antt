@@ -1,6 +1,6 @@
 -- Bits that are written field by field: what a store of a field holds, and how long the bits are.
 use mathlib.Core.Path.{_≡_, refl, sym, ap, _∙_, subst}
-use mathlib.Core.List.{List, [], _++_}
+use mathlib.Core.List.{List, [], _++_, append-assoc}
 use Prim.Native.Nat.{ℕ, zero, suc, _+_, _-_, _*_, _≤_, _<_}
 use native.Mathlib.Numerals.{add-one}
 use native.Mathlib.Omega.{arith}
@@ -13,11 +13,11 @@ use Rattle.laws.proofs.TableLaws.{zeros-at}
 use Rattle.bits.specs.Bits.{field}
 use Rattle.bits.proofs.BitLaws.{field-length, field-after, paste-before, paste-inside, paste-after}
 use Rattle.sheet.specs.Counts.{mostChannels, longestSheet}
-use Rattle.sheet.specs.Layout.{versionAt, versionWidth, modeAt, modeWidth, countAt, countWidth, slotsAt, slotsWidth, spareAt, spareWidth, headWidth, ttiWidth, encodedWidth, ratioWidth, codesWidth, capacityWidth, channelAt, slotWidth}
+use Rattle.sheet.specs.Layout.{headWidths, widthTo, versionAt, versionWidth, modeAt, modeWidth, countAt, countWidth, slotsAt, slotsWidth, spareAt, spareWidth, ttiWidth, encodedWidth, ratioWidth, codesWidth, capacityWidth, channelAt, slotWidth}
 use Rattle.sheet.specs.Fields.{ttiOf, encodedOf, ratioOf, phchsOf, capacityOf}
 use Rattle.sheet.specs.Sizes.{slotAt}
 use Rattle.sheet.specs.declared.Sheet.{Sheet}
-use Rattle.writing.specs.Written.{headBits, channelBits, capacityBits, slotsBits, Holds}
+use Rattle.writing.specs.Written.{headValues, headTo, headBits, channelBits, capacityBits, slotsBits, Holds}
 
 -- the bits that the writer has room for
 abbrev pub room : ℕ
@@ -60,19 +60,6 @@ module _ (bs : List ℕ) (n : ℕ) (l : List ℕ) (at w v : ℕ) (h : Holds bs n
       }
 
 module _ (sh : Sheet) where
-  -- the head, without the fields that are still to come
-  abbrev pub toVersion : List ℕ
-  toVersion = field versionWidth (sh .version)
-
-  abbrev pub toMode : List ℕ
-  toMode = toVersion ++ field modeWidth (sh .mode)
-
-  abbrev pub toCount : List ℕ
-  toCount = toMode ++ field countWidth (sh .channels - 1)
-
-  abbrev pub toSlots : List ℕ
-  toSlots = toCount ++ field slotsWidth (sh .slots)
-
   -- the bits before channel i with its TTI, and with its E too
   abbrev pub toTti : ℕ → List ℕ
   toTti i = channelBits sh i ++ field ttiWidth (ttiOf sh i)
@@ -81,29 +68,14 @@ module _ (sh : Sheet) where
   toEncoded i = toTti i ++ field encodedWidth (encodedOf sh i)
 
   -- how long the bits are
-  pub version-length : length toVersion ≡ modeAt
-  unfolding table
-  version-length = refl
-
-  pub mode-length : length toMode ≡ countAt
-  unfolding table
-  mode-length = refl
-
-  pub count-length : length toCount ≡ slotsAt
-  unfolding table
-  count-length = refl
-
-  pub slot-count-length : length toSlots ≡ spareAt
-  unfolding table
-  slot-count-length = refl
-
-  head-length : length (headBits sh) ≡ headWidth
-  unfolding headBits table
-  head-length = refl
+  pub head-length : (k : ℕ) → length (headTo sh k) ≡ widthTo headWidths k
+  unfolding headTo
+  head-length zero = refl
+  head-length (suc k) = field-after (headTo sh k) (getD headWidths k 0) _ ∙ ap (λ (x : ℕ). x + getD headWidths k 0) (head-length k)
 
   pub channel-length : (i : ℕ) → length (channelBits sh i) ≡ channelAt i
   unfolding channelBits
-  channel-length zero = head-length
+  channel-length zero = head-length 8
   channel-length (suc i) =
       field-after (toEncoded i) ratioWidth (ratioOf sh i - 1)
       ∙ omega (
@@ -146,18 +118,30 @@ module _ (sh : Sheet) where
   unfolding slotsBits
   slots-more t = rw (add-one t)
 
+  -- a field of the head is put
+  head-more : (k : ℕ) → widthTo headWidths (suc k) ≤ room → (bs : List ℕ) → Holds bs room (headTo sh k) → {u : ℕ} {r : List ℕ}
+      → u ≡ getD (headValues sh) k 0 → r ≡ paste bs (widthTo headWidths k) (field (getD headWidths k 0) u) (getD headWidths k 0)
+      → Holds r room (headTo sh (suc k))
+  unfolding headTo
+  head-more k fits bs h q p = holds-more bs room (headTo sh k) (widthTo headWidths k) (getD headWidths k 0) (getD (headValues sh) k 0) h (head-length k) fits q p
+
+  -- the spare bits at once are the spare bits one after the other
+  spares-put : headTo sh 4 ++ field spareWidth 0 ≡ headBits sh
+  unfolding headTo table
+  spares-put = simp append-assoc
+
   -- the head is put
   pub head-put : (b : List ℕ) → Holds b room [] → {v m n t : ℕ} {b1 b2 b3 b4 b5 : List ℕ} → v ≡ sh .version → m ≡ sh .mode → n ≡ sh .channels
       → t ≡ sh .slots → b1 ≡ paste b versionAt (field versionWidth v) versionWidth → b2 ≡ paste b1 modeAt (field modeWidth m) modeWidth
       → b3 ≡ paste b2 countAt (field countWidth (n - 1)) countWidth → b4 ≡ paste b3 slotsAt (field slotsWidth t) slotsWidth
       → b5 ≡ paste b4 spareAt (field spareWidth 0) spareWidth → Holds b5 room (headBits sh)
-  unfolding headBits
+  unfolding headTo
   head-put b h ev em en et p1 p2 p3 p4 p5 =
-      let h1 = holds-more b room [] versionAt versionWidth (sh .version) h refl (omega arith) ev p1 in
-      let h2 = holds-more _ room toVersion modeAt modeWidth (sh .mode) h1 version-length (omega arith) em p2 in
-      let h3 = holds-more _ room toMode countAt countWidth (sh .channels - 1) h2 mode-length (omega arith) (ap (λ (x : ℕ). x - 1) en) p3 in
-      let h4 = holds-more _ room toCount slotsAt slotsWidth (sh .slots) h3 count-length (omega arith) et p4 in
-      holds-more _ room toSlots spareAt spareWidth 0 h4 slot-count-length (omega arith) refl p5
+      let h1 = head-more 0 (omega arith) b h ev p1 in
+      let h2 = head-more 1 (omega arith) _ h1 em p2 in
+      let h3 = head-more 2 (omega arith) _ h2 (ap (λ (x : ℕ). x - 1) en) p3 in
+      let h4 = head-more 3 (omega arith) _ h3 et p4 in
+      subst (Holds _ room) spares-put (holds-more _ room (headTo sh 4) spareAt spareWidth 0 h4 (head-length 4) (omega arith) refl p5)
 
   -- the fields of channel i are put
   module _ (i : ℕ) (b : i < mostChannels) where

@@ -1,21 +1,20 @@
 -- No field is outside its range just where each is within it; and what the number 0 says of the fields, both ways.
-use mathlib.Core.Path.{_≡_, sym, ap, ap₂, _∙_}
+use mathlib.Core.Path.{_≡_, refl, sym, ap, ap₂, _∙_}
 use mathlib.Core.Bool.{Bool, false, not, cond, _||_}
 use mathlib.Core.List.{List, [], _∷_}
 use Prim.Native.Nat.{ℕ, _≤_, _<_}
 use borrow.Author.Tests.{ltb-false, eqb-true, eqb-false, not-false, le-ltb, eq-eqb, ne-eqb}
-use lib.Dec.{ltb, eqb, lit<}
+use lib.Dec.{ltb, eqb}
 use Rattle.laws.specs.Sums.{anyTo}
 use Rattle.laws.proofs.SumLaws.{any-each, any-none}
 use Rattle.laws.proofs.TestLaws.{or-left, or-right}
 use Rattle.counters.specs.Lines.{Line, line, firstOf}
-use Rattle.counters.proofs.LineLaws.{Clear, Numbered, more, pass-zero, clear-of, of-clear, append-clear, append-zero, first-append}
+use Rattle.counters.proofs.LineLaws.{Clear, Numbered, numbered-of, pass-zero, clear-of, of-clear, append-clear, append-zero, first-append}
 use Rattle.sheet.specs.Counts.{mostChannels, mostSlots, mostCodes, mostTti, mostEncoded, mostRatio, mostCapacity}
 use Rattle.sheet.specs.Fields.{ttiOf, encodedOf, ratioOf, phchsOf, capacityOf}
 use Rattle.sheet.specs.Sizes.{bytesNeeded}
 use Rattle.sheet.specs.Numbers.{loadLines}
 use Rattle.sheet.specs.Range.{Ranged}
-use Rattle.sheet.proofs.NumberLaws.{load-numbered}
 use Rattle.sheet.specs.declared.Sheet.{Sheet}
 use Rattle.writing.specs.Numbers.{outside, channelOutside, slotOutside, fieldOutside, fieldLines, fieldNumber, writeNumber}
 
@@ -100,7 +99,7 @@ inside-of sh r =
     (any-none (λ p. ltb mostCapacity (capacityOf sh t p)) (phchsOf sh t) (λ p k. le-ltb mostCapacity _ (r .caps t p l k))))))))
 
 field-numbered : (sh : Sheet) → Numbered (fieldLines sh)
-field-numbered sh = more (lit< tt) (more (lit< tt) (more (lit< tt) (load-numbered sh)))
+field-numbered sh = numbered-of (fieldLines sh) refl
 
 -- what the lines of the fields leave
 pub record Sound (sh : Sheet) : Type 0 where

@@ -13,7 +13,7 @@ use Rattle.bits.specs.Bits.{bitAt, bitsAt, bitOf}
 use Rattle.bits.proofs.BitLaws.{packed-bit, val-zero}
 use Rattle.sheet.specs.Counts.{mostChannels, mostSlots, mostCodes, mostCapacities}
 use Rattle.sheet.specs.Layout.{codesWidth, capacityWidth, channelAt, slotWidth}
-use Rattle.sheet.specs.Fields.{channelsIn, slotsIn, slotFrom, phchsIn, sheetOf, phchsOf}
+use Rattle.sheet.specs.Fields.{headIn, channelsIn, slotsIn, slotFrom, phchsIn, sheetOf, phchsOf}
 use Rattle.sheet.specs.Sizes.{slotAt, bitsNeeded, bytesNeeded}
 use Rattle.sheet.specs.Numbers.{loadLines, readAnswer}
 use Rattle.sheet.specs.Range.{Ranged}
@@ -21,7 +21,7 @@ use Rattle.sheet.proofs.FieldLaws.{startIn}
 use Rattle.sheet.proofs.NumberLaws.{Readable, number-zero, accepted}
 use Rattle.sheet.specs.declared.Sheet.{Sheet}
 use Rattle.writing.specs.Numbers.{fieldNumber, writeNumber}
-use Rattle.writing.specs.Written.{sheetBits, bytesOf, trimmed}
+use Rattle.writing.specs.Written.{headValues, sheetBits, bytesOf, trimmed}
 use Rattle.writing.proofs.HoldLaws.{slots-length}
 use Rattle.writing.proofs.RangeLaws.{Sound, sound, writable}
 use Rattle.writing.proofs.ByteLaws.{slots-binary}
@@ -126,6 +126,9 @@ module _ (sh : Sheet) where
     need-back : bitsNeeded (sheetOf (bytesOf sh)) ≡ bitsNeeded sh
     need-back = ap bitsNeeded fields-back ∙ agree-need (trimmed sh) sh (trim-agree sh (w .ranged))
 
+    none-at : (k : ℕ) → k < 8 → getD (headValues sh) k 0 ≡ 0 → headIn (bytesOf sh) k ≡ 0
+    none-at = read-spare sh (bitAt (bytesOf sh)) begun (w .ranged) (w .version)
+
     readable-back : Readable (bytesOf sh)
     readable-back =
         record {
@@ -133,7 +136,7 @@ module _ (sh : Sheet) where
           version = ap (λ (x : Sheet). x .version) fields-back ∙ trim-version ∙ w .version;
           some = λ z. w .some (sym (ap (λ (x : Sheet). x .slots) fields-back ∙ trim-slots) ∙ z);
           exact = bytes-length ∙ ap (λ (x : ℕ). (x + 7) / 8) (sym need-back);
-          spare = read-spare sh (bitAt (bytesOf sh)) begun (w .ranged) (w .version);
+          spare = omega (arith, none-at 4 (omega arith) refl, none-at 5 (omega arith) refl, none-at 6 (omega arith) refl, none-at 7 (omega arith) refl);
           padding = ap₂ (λ (x y : ℕ). bitsAt (bytesOf sh) x (8 * y - x)) need-back bytes-length ∙ padding-zero;
           loads =
               ap (λ (x : Sheet). firstOf (loadLines x)) fields-back ∙ ap firstOf (agree-lines (trimmed sh) sh (trim-agree sh (w .ranged)))

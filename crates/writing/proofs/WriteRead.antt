@@ -1,24 +1,24 @@
 -- An accepted sheet written again gives the same bytes (S9), and none is longer than the longest.
-use mathlib.Core.Path.{_≡_, refl, sym, ap, _∙_, subst}
+use mathlib.Core.Path.{_≡_, sym, ap, _∙_, subst}
 use mathlib.Core.List.{List, []}
 use Prim.Native.Nat.{ℕ, zero, suc, _+_, _-_, _*_, _≤_, _<_}
 use native.Mathlib.Omega.{arith}
 use native.Mathlib.Decide.{decLt}
 use lib.ListN.{length, getD, List·getD-eq-default}
 use Rattle.laws.specs.Sums.{sumTo}
-use Rattle.bits.specs.Bits.{val, bitAt, bitsAt, packed, bitOf}
+use Rattle.bits.specs.Bits.{val, bitAt, packed, bitOf}
 use Rattle.bits.proofs.BitLaws.{bit-lt, packed-again, packed-same, val-none}
 use Rattle.sheet.specs.Counts.{longestSheet}
-use Rattle.sheet.specs.Layout.{versionAt, versionWidth, modeAt, modeWidth, countAt, countWidth, slotsAt, slotsWidth, spareAt, spareWidth, ttiWidth, encodedWidth, ratioWidth, codesWidth, capacityWidth, channelAt, slotWidth}
-use Rattle.sheet.specs.Fields.{channelsIn, slotsIn, slotFrom, phchsIn, sheetOf, ttiOf, encodedOf, ratioOf, phchsOf, capacityOf}
+use Rattle.sheet.specs.Layout.{headWidths, widthTo, ttiWidth, encodedWidth, ratioWidth, codesWidth, capacityWidth, channelAt, slotWidth}
+use Rattle.sheet.specs.Fields.{headIn, sparesIn, channelsIn, slotsIn, slotFrom, phchsIn, sheetOf, ttiOf, encodedOf, ratioOf, phchsOf, capacityOf}
 use Rattle.sheet.specs.Sizes.{slotAt, bitsNeeded}
 use Rattle.sheet.specs.Numbers.{readNumber}
 use Rattle.sheet.proofs.FieldLaws.{startIn, version-in, mode-in, channels-in, slots-in, tti-in, encoded-in, ratio-in, phchs-in, caps-in, ranged-in}
 use Rattle.sheet.proofs.SizeLaws.{bytes-most}
 use Rattle.sheet.proofs.NumberLaws.{Readable, readable}
 use Rattle.writing.specs.Numbers.{writeNumber}
-use Rattle.writing.specs.Written.{headBits, channelBits, capacityBits, slotsBits, sheetBits, bytesOf}
-use Rattle.writing.proofs.HoldLaws.{toVersion, toMode, toCount, toSlots, toTti, toEncoded, version-length, mode-length, count-length, slot-count-length, channel-length, tti-length, encoded-length, slots-length, caps-length}
+use Rattle.writing.specs.Written.{headValues, headTo, headBits, channelBits, capacityBits, slotsBits, sheetBits, bytesOf}
+use Rattle.writing.proofs.HoldLaws.{toTti, toEncoded, head-length, channel-length, tti-length, encoded-length, slots-length, caps-length}
 use Rattle.writing.proofs.RangeLaws.{Sound, sound-zero, write-zero}
 use Rattle.writing.proofs.BeginLaws.{Begins, begins-more}
 
@@ -43,19 +43,19 @@ module _ (s : List ℕ) where
       ∙ ap (λ (x : ℕ). val (bitAt s) (x + slotWidth p) capacityWidth) (slot-in t (omega arith))
 
   -- the bytes begin with the bits of their fields, where the spare bits are 0
-  module _ (z : bitsAt s spareAt spareWidth ≡ 0) where
+  module _ (z : sparesIn s ≡ 0) where
+    head-next : (k : ℕ) → getD (headValues (sheetOf s)) k 0 ≡ headIn s k → Begins (bitAt s) (headTo (sheetOf s) k) → Begins (bitAt s) (headTo (sheetOf s) (suc k))
+    unfolding headTo
+    head-next k q h =
+        begins-more (bitAt s) (headTo (sheetOf s) k) (widthTo headWidths k) (getD headWidths k 0) (getD (headValues (sheetOf s)) k 0) (bit-lt s)
+        (head-length (sheetOf s) k) q h
+
     head-up : Begins (bitAt s) (headBits (sheetOf s))
-    unfolding headBits
+    unfolding headTo
     head-up =
-        let sh = sheetOf s in
-        let f = bitAt s in
-        let two = bit-lt s in
-        let h0 : Begins f [] = record { bit = λ i l. absurd (omega arith) } in
-        let h1 = begins-more f [] versionAt versionWidth (sh .version) two refl (version-in s) h0 in
-        let h2 = begins-more f (toVersion sh) modeAt modeWidth (sh .mode) two (version-length sh) (mode-in s) h1 in
-        let h3 = begins-more f (toMode sh) countAt countWidth (sh .channels - 1) two (mode-length sh) (omega (arith, channels-in s)) h2 in
-        let h4 = begins-more f (toCount sh) slotsAt slotsWidth (sh .slots) two (count-length sh) (slots-in s) h3 in
-        begins-more f (toSlots sh) spareAt spareWidth 0 two (slot-count-length sh) (sym z) h4
+        let h0 : Begins (bitAt s) [] = record { bit = λ i l. absurd (omega arith) } in
+        let h4 = head-next 3 (slots-in s) (head-next 2 (omega (arith, channels-in s)) (head-next 1 (mode-in s) (head-next 0 (version-in s) h0))) in
+        head-next 7 (omega arith) (head-next 6 (omega arith) (head-next 5 (omega arith) (head-next 4 (omega arith) h4)))
 
     channels-up : (i : ℕ) → i ≤ channelsIn s → Begins (bitAt s) (channelBits (sheetOf s) i)
     unfolding channelBits

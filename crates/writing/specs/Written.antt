@@ -1,6 +1,6 @@
 -- The bits of a sheet's fields, one field after the other; its bytes; what writing answers.
 use mathlib.Core.Path.{_≡_}
-use mathlib.Core.List.{List, _++_}
+use mathlib.Core.List.{List, [], _∷_, _++_}
 use Prim.Native.Nat.{ℕ, zero, suc, _-_, _*_, _/_, _%_}
 use lib.ListN.{getD, length}
 use Rattle.laws.specs.Tables.{table, upTo}
@@ -8,17 +8,23 @@ use Rattle.counters.specs.Lines.{given, answerOf}
 use Rattle.counters.specs.declared.Answer.{Answer}
 use Rattle.bits.specs.Bits.{field, packed, bitOf}
 use Rattle.sheet.specs.Counts.{mostChannels, mostSlots, mostCodes, mostCapacities}
-use Rattle.sheet.specs.Layout.{versionWidth, modeWidth, countWidth, slotsWidth, spareWidth, ttiWidth, encodedWidth, ratioWidth, codesWidth, capacityWidth}
+use Rattle.sheet.specs.Layout.{headWidths, ttiWidth, encodedWidth, ratioWidth, codesWidth, capacityWidth}
 use Rattle.sheet.specs.Fields.{ttiOf, encodedOf, ratioOf, phchsOf, capacityOf}
 use Rattle.sheet.specs.Sizes.{bytesNeeded}
 use Rattle.sheet.specs.declared.Sheet.{Sheet}
 use Rattle.writing.specs.Numbers.{fieldNumber, writeNumber}
 
--- version, mode, I-1, T, spare
-unfoldable pub headBits : Sheet → List ℕ
-headBits sh =
-    (((field versionWidth (sh .version) ++ field modeWidth (sh .mode)) ++ field countWidth (sh .channels - 1)) ++ field slotsWidth (sh .slots))
-    ++ field spareWidth 0
+-- what stands in the head's fields: version, mode, I-1, T, and 0 in each that is spare
+abbrev pub headValues : Sheet → List ℕ
+headValues sh = sh .version ∷ sh .mode ∷ (sh .channels - 1) ∷ sh .slots ∷ 0 ∷ 0 ∷ 0 ∷ 0 ∷ []
+
+-- the first k of them
+unfoldable pub headTo : Sheet → ℕ → List ℕ
+headTo sh zero = []
+headTo sh (suc k) = headTo sh k ++ field (getD headWidths k 0) (getD (headValues sh) k 0)
+
+abbrev pub headBits : Sheet → List ℕ
+headBits sh = headTo sh 8
 
 -- those, and TTI, E, RM-1 of the first i channels
 unfoldable pub channelBits : Sheet → ℕ → List ℕ

@@ -3,7 +3,8 @@ ghost use mathlib.Core.Path.{_≡_};
 ghost use mathlib.Core.List.{[]};
 ghost use Prim.Native.Nat.{_+_, _*_, _≤_, _<_};
 ghost use lib.ListN.{length};
-ghost use Rattle.sheet.specs.Counts.{mostSlots, mostCodes, longestSheet};
+ghost use Rattle.sheet.specs.Counts.{mostChannels, mostSlots, mostCodes, longestSheet};
+ghost use Rattle.sheet.specs.Layout.{channelAt, slotWidth};
 ghost use Rattle.sheet.specs.Fields.{phchsOf};
 ghost use Rattle.sheet.specs.Sizes.{slotAt, bytesNeeded};
 ghost use Rattle.sheet.specs.Range.{Ranged};
@@ -67,7 +68,7 @@ fn put_channels(bs: &mut [u8], fields: Sheet)
 }
 
 fn put_slot(bs: &mut [u8], fields: Sheet, t: usize, start: usize)
-    requires { ⌜ (t < mostSlots) × (1 ≤ phchsOf fields t) × (phchsOf fields t ≤ mostCodes) × (start ≡ slotAt fields t) × (start ≤ 208 + 196 * t) × Holds (now bs) (8 * longestSheet) (slotsBits fields t) ⌝ }
+    requires { ⌜ (t < mostSlots) × (1 ≤ phchsOf fields t) × (phchsOf fields t ≤ mostCodes) × (start ≡ slotAt fields t) × (start ≤ channelAt mostChannels + slotWidth mostCodes * t) × Holds (now bs) (8 * longestSheet) (slotsBits fields t) ⌝ }
     ensures { λ _. ⌜ Holds (now (bs .exit)) (8 * longestSheet) (slotsBits fields (t + 1)) ⌝ }
 {
     let n = count(fields.phchs[t]);

@@ -1,26 +1,22 @@
-use mathlib.Core.Path.{_≡_, sym, ap, _∙_}
-use mathlib.Core.List.{List}
-use Prim.Native.Nat.{ℕ, _+_, _-_, _≤_}
+use mathlib.Core.Path.{_≡_}
+use Prim.Native.Nat.{_-_}
 use native.Mathlib.Omega.{arith}
-use native.Mathlib.Numerals.{add-one}
-use lib.ListN.{length, getD, set}
-use lib.Seq.{paste, paste-zero, paste-suc, length-paste}
+use lib.ListN.{length}
+use Rattle.laws.proofs.PasteLaws.{Pasting, pasting-none, pasting-long, pasting-more, pasting-done}
 use Rattle.listing.proofs.put.Statement.{statement}
 use Rattle.listing.proofs.put.Tie as tie
 
 abbrev Inv-loop : tie.InvT-loop
-Inv-loop out₀ at text i₀ out i = (i ≤ length text) × (out ≡ paste out₀ at text i)
+Inv-loop out₀ at text i₀ out i = Pasting out₀ at text out i
 
 abbrev μ-loop : tie.MeasureT-loop
 μ-loop out₀ at text i₀ out i = length text - i
 
 long : (c : tie.At-loop Inv-loop μ-loop) → length (c .loop .out) ≡ length (c .before .args .out .now)
-long c =
-    let a = c .before .args in
-    ap length (c .loop .inv .1) ∙ length-paste (a .out .now) (a .at) (a .text .now) (c .loop .i) (omega arith) (omega arith)
+long c = pasting-long (c .loop .inv) (c .before .pre)
 
 loop-holds : tie.Need-loop-holds Inv-loop μ-loop
-loop-holds c = (omega arith, paste-zero (c .args .out .now) (c .args .at) (c .args .text .now))
+loop-holds c = pasting-none _ _ _
 
 shared-slice-read-out : tie.Need-shared-slice-read-out Inv-loop μ-loop
 shared-slice-read-out c = omega arith
@@ -38,14 +34,7 @@ loop-less : tie.Need-loop-less Inv-loop μ-loop
 loop-less c = omega arith
 
 loop-again : tie.Need-loop-again Inv-loop μ-loop
-loop-again c =
-    let a = c .before .before .before .args in
-    let l = c .before .before .loop in (
-      omega arith,
-      ap (λ (d : List ℕ). set d (a .at + l .i) (getD (a .text .now) (l .i) 0)) (l .inv .1)
-          ∙ paste-suc (a .out .now) (a .at) (a .text .now) (l .i) 0 (omega arith) (omega arith)
-          ∙ ap (paste (a .out .now) (a .at) (a .text .now)) (sym (add-one (l .i))),
-    )
+loop-again c = pasting-more (c .before .before .loop .inv) (c .before .before .before .pre) 0 (omega arith)
 
 add-result : tie.Need-add-result Inv-loop μ-loop
 add-result c = omega arith
@@ -54,11 +43,7 @@ same-length : tie.Need-same-length Inv-loop μ-loop
 same-length c = long (c .before)
 
 returns : tie.Need-returns Inv-loop μ-loop
-returns c =
-    let a = c .before .before .args in
-    let l = c .before .loop in
-    let e : l .i ≡ length (a .text .now) = omega arith in
-    (omega arith, l .inv .1 ∙ ap (paste (a .out .now) (a .at) (a .text .now)) e)
+returns c = (omega arith, pasting-done (c .before .loop .inv) (omega arith))
 
 pub put-spec : {M : Type 1} → statement M
 put-spec =

@@ -1,13 +1,14 @@
 use mathlib.Core.Path.{ap, ap₂, _∙_}
 use Prim.Native.Nat.{ℕ, _+_, _*_, _%_, _≤_}
 use native.Mathlib.Omega.{arith}
+use Rattle.sheet.specs.Counts.{mostFrames, mostEncoded}
 use Rattle.orders.specs.Orders.{columnAt}
 use Rattle.naming.proofs.NamingLaws.{number-most}
 use borrow.Author.Needs.{needs}
 use Rattle.naming.proofs.bit_number.Statement.{statement}
 use Rattle.naming.proofs.bit_number.Tie as tie
 
-product : (c : tie.After-column) → c .before .before .before .before .args .m * c .before .before .before .frames .result ≤ 131064
+product : (c : tie.After-column) → c .before .before .before .before .args .m * c .before .before .before .frames .result ≤ mostEncoded * mostFrames
 product c = let g = c .before .before .before in number-most (g .before .pre .1) (g .frames .ensures .2)
 
 frames-requires : tie.Need-frames-requires

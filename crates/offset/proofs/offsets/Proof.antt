@@ -1,10 +1,11 @@
 use borrow.Author.Needs.{needs}
 use native.Mathlib.Omega.{arith}
 use mathlib.Core.Path.{_≡_, refl, ap, _∙_}
-use Prim.Native.Nat.{ℕ, _-_, _/_, _%_, _≤_}
+use Prim.Native.Nat.{ℕ, _*_, _-_, _/_, _%_, _≤_}
 use native.Mathlib.Nat.{mod-lt, div-le-self, le-trans}
 use native.Mathlib.Numerals.{add-one}
 use lib.ListN.{getD}
+use Rattle.sheet.specs.Counts.{mostFrames}
 use Rattle.matching.specs.Signed.{signedBy}
 use Rattle.offset.specs.Offset.{filled}
 use Rattle.offset.proofs.Bounds.{zeros-le, set-le}
@@ -12,7 +13,7 @@ use Rattle.offset.proofs.offsets.Statement.{statement}
 use Rattle.offset.proofs.offsets.Tie as tie
 
 abbrev Inv-loop : tie.InvT-loop
-Inv-loop q f g s₀ x₀ s x = (s ≡ filled (signedBy (q .below) (q .size)) f x) × (x ≤ f) × ((i : ℕ) → getD s i 0 ≤ 131072)
+Inv-loop q f g s₀ x₀ s x = (s ≡ filled (signedBy (q .below) (q .size)) f x) × (x ≤ f) × ((i : ℕ) → getD s i 0 ≤ mostFrames * 16384)
 
 abbrev μ-loop : tie.MeasureT-loop
 μ-loop q f g s₀ x₀ s x = f - x
@@ -22,7 +23,7 @@ added-requires c κs = search needs
 
 loop-holds : tie.Need-loop-holds Inv-loop μ-loop
 unfolding filled
-loop-holds c = (refl, omega arith, λ i. zeros-le 8 i 131072)
+loop-holds c = (refl, omega arith, λ i. zeros-le mostFrames i (mostFrames * 16384))
 
 distance-requires : tie.Need-distance-requires Inv-loop μ-loop
 distance-requires c κs = search needs
@@ -53,7 +54,7 @@ loop-again c =
     let l = c .before .before .loop in (
       rw (add-one, l .inv .0, c .distance .ensures .0) refl,
       omega arith,
-      set-le (l .s) (y % f) (y / f) 131072 (l .inv .2) (le-trans (div-le-self y f) (c .distance .ensures .1)),
+      set-le (l .s) (y % f) (y / f) (mostFrames * 16384) (l .inv .2) (le-trans (div-le-self y f) (c .distance .ensures .1)),
     )
 
 returns : tie.Need-returns Inv-loop μ-loop

@@ -1,43 +1,16 @@
-use mathlib.Core.Path.{_≡_, sym, _∙_}
-use Prim.Native.Nat.{_≤_}
-use native.Mathlib.Omega.{arith}
+use mathlib.Core.Path.{sym, _∙_}
 use lib.Ieee.{nan, ofBits, binary32}
+use Rattle.frame.proofs.RoomLaws.{room-part}
+use Rattle.joining.specs.Range.{inRange}
+use Rattle.homing.specs.Gather.{gathered}
 use lib.ListN.{length}
 use Rattle.sheet.specs.Counts.{mostBits}
-use Rattle.sheet.specs.Sizes.{capacityAll}
-use Rattle.sheet.specs.Numbers.{readLines}
-use Rattle.joining.specs.Range.{inRange}
-use Rattle.opening.specs.Opened.{Opens}
 use Rattle.opening.specs.declared.OpenAnswer.{OpenAnswer}
-use Rattle.opening.proofs.OpenLaws.{opens, capacity-most}
-use Rattle.frame.proofs.RoomLaws.{room-part}
-use Rattle.homing.specs.Gather.{gathered}
-use Rattle.looking.proofs.LookLaws.{begun-sheet, look-long, early-read, leaves-early, leaves-looked, leaves-written}
+use Rattle.opening.proofs.OpenLaws.{opens}
+use Rattle.looking.proofs.LookLaws.{Fits, moves-early, moves-looked, moves-written, moves-fit}
 use borrow.Author.Needs.{needs}
 use Rattle.receiving.proofs.gather.Statement.{statement}
 use Rattle.receiving.proofs.gather.Tie as tie
-
--- the sheet is opened
-module _ (c : tie.After-opened) where
-  abbrev answer : OpenAnswer
-  answer = c .before .before .open-sheet .result
-
-  opened : Opens (answer .opened)
-  opened =
-      opens (c .before .before .before .before .before .before .args .bytes .now) answer (c .before .before .open-sheet .ensures) (c .before .if1 .left)
-
--- the frame and the buffer are as long as they have to be
-module _ (c : tie.Else2) where
-  long : (length (c .before .before .before .before .before .before .before .before .before .before .before .args .frame .now) ≡ capacityAll (answer (c .before .before .before .before .before) .opened .fields))
-      × (length (c .before .before .before .before .before .before .before .before .before .before .before .args .out .now) ≡ capacityAll (answer (c .before .before .before .before .before) .opened .fields))
-  long =
-      let l = c .before .before in
-      let a = l .before .before .before .before .before .before .before .before .before .args in
-      let n = look-long inRange (a .frame .now) (l .before .capacity .result) (length (a .out .now)) (l .before .capacity .result) (l .look-soft .result) (l .look-soft .ensures) (c .if2 .left) in
-      (n .0 ∙ l .before .capacity .ensures .0, n .1 ∙ l .before .capacity .ensures .0)
-
-  fits : length (c .before .before .before .before .before .before .before .before .before .before .before .args .out .now) ≤ mostBits
-  fits = omega (arith, long .1, capacity-most (answer (c .before .before .before .before .before) .opened .fields) (opened (c .before .before .before .before .before) .accepted))
 
 open-sheet-requires : tie.Need-open-sheet-requires
 open-sheet-requires c κs = search needs
@@ -46,11 +19,12 @@ returns : tie.Need-returns
 returns c =
     let o = c .before in
     let a = o .before .before .before .before .args in
-    leaves-early inRange (a .frame .now) (a .out .now) capacityAll capacityAll capacityAll (λ sh. gathered nan sh (a .frame .now)) (a .bytes .now)
-    (readLines (a .bytes .now)) (early-read (a .bytes .now)) (o .open-sheet .result) (begun-sheet (a .bytes .now) (o .open-sheet .result) (o .open-sheet .ensures)) (c .if1 .taken)
+    moves-early inRange (a .frame .now) (a .out .now) (λ sh. gathered nan sh (a .frame .now)) (a .bytes .now) (o .open-sheet .result) (o .open-sheet .ensures) (c .if1 .taken)
 
 capacity-requires : tie.Need-capacity-requires
-capacity-requires c κs = opened (c .before)
+capacity-requires c κs =
+    let o = c .before .before .before in
+    opens (o .before .before .before .before .args .bytes .now) (o .open-sheet .result) (o .open-sheet .ensures) (c .before .before .if1 .left)
 
 look-soft-requires : tie.Need-look-soft-requires
 look-soft-requires c κs = search needs
@@ -60,22 +34,32 @@ returns-2 c =
     let l = c .before .before in
     let o = l .before .before .before .before .before in
     let a = o .before .before .before .before .args in
-    leaves-looked inRange (a .frame .now) (a .out .now) capacityAll capacityAll capacityAll (λ sh. gathered nan sh (a .frame .now)) (a .bytes .now)
-    (readLines (a .bytes .now)) (early-read (a .bytes .now)) (o .open-sheet .result) (begun-sheet (a .bytes .now) (o .open-sheet .result) (o .open-sheet .ensures))
-    (l .before .before .before .before .if1 .left) (l .before .capacity .ensures .0) (l .before .capacity .ensures .0) (l .look-soft .result) (l .look-soft .ensures) (c .if2 .taken)
+    moves-looked inRange (a .frame .now) (a .out .now) (λ sh. gathered nan sh (a .frame .now)) (a .bytes .now) (o .open-sheet .result) (o .open-sheet .ensures)
+    (l .before .before .before .before .if1 .left) (l .before .capacity .ensures .0) (l .look-soft .result) (l .look-soft .ensures) (c .if2 .taken)
+
+-- number 0: what is lent is as long as it has to be
+abbrev answer : tie.Else2 → OpenAnswer
+answer c = c .before .before .before .before .before .before .before .open-sheet .result
+
+fits : (c : tie.Else2)
+    → let a = c .before .before .before .before .before .before .before .before .before .before .before .args in Fits (answer c .opened .fields) (length (a .frame .now)) (length (a .out .now))
+fits c =
+    let l = c .before .before in
+    let o = l .before .before .before .before .before in
+    let a = o .before .before .before .before .args in
+    moves-fit inRange (a .frame .now) (a .out .now) (λ sh. gathered nan sh (a .frame .now)) (a .bytes .now) (o .open-sheet .result) (o .open-sheet .ensures)
+    (l .before .before .before .before .if1 .left) (l .before .capacity .ensures .0) (l .look-soft .result) (l .look-soft .ensures) (c .if2 .left)
 
 array-borrow-prefix-room : tie.Need-array-borrow-prefix-room
-array-borrow-prefix-room c = fits c
+array-borrow-prefix-room c = fits c .few
 
 slice-aggregate-gather-values : tie.Need-slice-aggregate-gather-values
-slice-aggregate-gather-values c =
-    sym (room-part mostBits (length (c .before .before .before .before .before .before .before .before .before .before .before .before .args .out .now)) (ofBits binary32 1065353216) (fits (c .before)))
+slice-aggregate-gather-values c = sym (room-part mostBits _ (ofBits binary32 1065353216) (fits (c .before) .few))
 
 gather-values-requires : tie.Need-gather-values-requires
 gather-values-requires c κs =
-    let e = c .before .before in
-    let n = length (e .before .before .before .before .before .before .before .before .before .before .before .args .out .now) in
-    (opened (e .before .before .before .before .before) .accepted, long e .0, room-part mostBits n (ofBits binary32 1065353216) (fits e) ∙ long e .1, long e .1)
+    let f = fits (c .before .before) in
+    (f .accepted, f .values, room-part mostBits _ (ofBits binary32 1065353216) (f .few) ∙ f .places, f .places)
 
 same-length : tie.Need-same-length
 same-length c = search needs
@@ -85,10 +69,9 @@ returns-3 c =
     let l = c .before .before .before .before .before .before .before .before in
     let o = l .before .before .before .before .before in
     let a = o .before .before .before .before .args in
-    leaves-written inRange (a .frame .now) (a .out .now) capacityAll capacityAll capacityAll (λ sh. gathered nan sh (a .frame .now)) (a .bytes .now)
-    (readLines (a .bytes .now)) (early-read (a .bytes .now)) (o .open-sheet .result) (begun-sheet (a .bytes .now) (o .open-sheet .result) (o .open-sheet .ensures))
-    (l .before .before .before .before .if1 .left) (l .before .capacity .ensures .0) (l .before .capacity .ensures .0) (l .look-soft .result) (l .look-soft .ensures)
-    (c .before .before .before .before .before .before .if2 .left) (l .before .capacity .ensures .0) (c .before .before .before .gather-values .ensures)
+    moves-written inRange (a .frame .now) (a .out .now) (λ sh. gathered nan sh (a .frame .now)) (a .bytes .now) (o .open-sheet .result) (o .open-sheet .ensures)
+    (l .before .before .before .before .if1 .left) (l .before .capacity .ensures .0) (l .look-soft .result) (l .look-soft .ensures)
+    (c .before .before .before .before .before .before .if2 .left) (c .before .before .before .gather-values .ensures)
 
 pub gather-spec : {M : Type 1} → statement M
 gather-spec =

@@ -1,42 +1,16 @@
-use mathlib.Core.Path.{_≡_, sym, _∙_}
-use Prim.Native.Nat.{ℕ, _≤_}
-use native.Mathlib.Omega.{arith}
-use lib.ListN.{length}
-use Rattle.sheet.specs.Counts.{mostBits}
-use Rattle.sheet.specs.Sizes.{capacityAll}
-use Rattle.sheet.specs.Numbers.{readLines}
-use Rattle.opening.specs.Opened.{Opens}
-use Rattle.opening.specs.declared.OpenAnswer.{OpenAnswer}
-use Rattle.opening.proofs.OpenLaws.{opens, capacity-most}
+use mathlib.Core.Path.{sym, _∙_}
+use Prim.Native.Nat.{ℕ}
 use Rattle.frame.proofs.RoomLaws.{room-part}
 use Rattle.frame.specs.Bit.{isBit}
 use Rattle.frame.specs.Frame.{spread}
-use Rattle.looking.proofs.LookLaws.{begun-sheet, look-long, early-read, leaves-early, leaves-looked, leaves-written}
+use lib.ListN.{length}
+use Rattle.sheet.specs.Counts.{mostBits}
+use Rattle.opening.specs.declared.OpenAnswer.{OpenAnswer}
+use Rattle.opening.proofs.OpenLaws.{opens}
+use Rattle.looking.proofs.LookLaws.{Fits, moves-early, moves-looked, moves-written, moves-fit}
 use borrow.Author.Needs.{needs}
 use Rattle.sending.proofs.spread.Statement.{statement}
 use Rattle.sending.proofs.spread.Tie as tie
-
--- the sheet is opened
-module _ (c : tie.After-opened) where
-  abbrev answer : OpenAnswer
-  answer = c .before .before .open-sheet .result
-
-  opened : Opens (answer .opened)
-  opened =
-      opens (c .before .before .before .before .before .before .args .bytes .now) answer (c .before .before .open-sheet .ensures) (c .before .if1 .left)
-
--- the bits and the frame are as long as they have to be
-module _ (c : tie.Else2) where
-  long : (length (c .before .before .before .before .before .before .before .before .before .before .before .args .bits .now) ≡ capacityAll (answer (c .before .before .before .before .before) .opened .fields))
-      × (length (c .before .before .before .before .before .before .before .before .before .before .before .args .out .now) ≡ capacityAll (answer (c .before .before .before .before .before) .opened .fields))
-  long =
-      let l = c .before .before in
-      let a = l .before .before .before .before .before .before .before .before .before .args in
-      let n = look-long isBit (a .bits .now) (l .before .capacity .result) (length (a .out .now)) (l .before .capacity .result) (l .look .result) (l .look .ensures) (c .if2 .left) in
-      (n .0 ∙ l .before .capacity .ensures .0, n .1 ∙ l .before .capacity .ensures .0)
-
-  fits : length (c .before .before .before .before .before .before .before .before .before .before .before .args .out .now) ≤ mostBits
-  fits = omega (arith, long .1, capacity-most (answer (c .before .before .before .before .before) .opened .fields) (opened (c .before .before .before .before .before) .accepted))
 
 open-sheet-requires : tie.Need-open-sheet-requires
 open-sheet-requires c κs = search needs
@@ -45,11 +19,12 @@ returns : tie.Need-returns
 returns c =
     let o = c .before in
     let a = o .before .before .before .before .args in
-    leaves-early isBit (a .bits .now) (a .out .now) capacityAll capacityAll capacityAll (λ sh. spread sh (a .bits .now)) (a .bytes .now)
-    (readLines (a .bytes .now)) (early-read (a .bytes .now)) (o .open-sheet .result) (begun-sheet (a .bytes .now) (o .open-sheet .result) (o .open-sheet .ensures)) (c .if1 .taken)
+    moves-early isBit (a .bits .now) (a .out .now) (λ sh. spread sh (a .bits .now)) (a .bytes .now) (o .open-sheet .result) (o .open-sheet .ensures) (c .if1 .taken)
 
 capacity-requires : tie.Need-capacity-requires
-capacity-requires c κs = opened (c .before)
+capacity-requires c κs =
+    let o = c .before .before .before in
+    opens (o .before .before .before .before .args .bytes .now) (o .open-sheet .result) (o .open-sheet .ensures) (c .before .before .if1 .left)
 
 look-requires : tie.Need-look-requires
 look-requires c κs = search needs
@@ -59,22 +34,32 @@ returns-2 c =
     let l = c .before .before in
     let o = l .before .before .before .before .before in
     let a = o .before .before .before .before .args in
-    leaves-looked isBit (a .bits .now) (a .out .now) capacityAll capacityAll capacityAll (λ sh. spread sh (a .bits .now)) (a .bytes .now)
-    (readLines (a .bytes .now)) (early-read (a .bytes .now)) (o .open-sheet .result) (begun-sheet (a .bytes .now) (o .open-sheet .result) (o .open-sheet .ensures))
-    (l .before .before .before .before .if1 .left) (l .before .capacity .ensures .0) (l .before .capacity .ensures .0) (l .look .result) (l .look .ensures) (c .if2 .taken)
+    moves-looked isBit (a .bits .now) (a .out .now) (λ sh. spread sh (a .bits .now)) (a .bytes .now) (o .open-sheet .result) (o .open-sheet .ensures)
+    (l .before .before .before .before .if1 .left) (l .before .capacity .ensures .0) (l .look .result) (l .look .ensures) (c .if2 .taken)
+
+-- number 0: what is lent is as long as it has to be
+abbrev answer : tie.Else2 → OpenAnswer
+answer c = c .before .before .before .before .before .before .before .open-sheet .result
+
+fits : (c : tie.Else2)
+    → let a = c .before .before .before .before .before .before .before .before .before .before .before .args in Fits (answer c .opened .fields) (length (a .bits .now)) (length (a .out .now))
+fits c =
+    let l = c .before .before in
+    let o = l .before .before .before .before .before in
+    let a = o .before .before .before .before .args in
+    moves-fit isBit (a .bits .now) (a .out .now) (λ sh. spread sh (a .bits .now)) (a .bytes .now) (o .open-sheet .result) (o .open-sheet .ensures)
+    (l .before .before .before .before .if1 .left) (l .before .capacity .ensures .0) (l .look .result) (l .look .ensures) (c .if2 .left)
 
 array-borrow-prefix-room : tie.Need-array-borrow-prefix-room
-array-borrow-prefix-room c = fits c
+array-borrow-prefix-room c = fits c .few
 
 slice-aggregate-spread-bits : tie.Need-slice-aggregate-spread-bits
-slice-aggregate-spread-bits c =
-    sym (room-part {A = ℕ} mostBits (length (c .before .before .before .before .before .before .before .before .before .before .before .before .args .out .now)) 0 (fits (c .before)))
+slice-aggregate-spread-bits c = sym (room-part {A = ℕ} mostBits _ 0 (fits (c .before) .few))
 
 spread-bits-requires : tie.Need-spread-bits-requires
 spread-bits-requires c κs =
-    let e = c .before .before in
-    let n = length (e .before .before .before .before .before .before .before .before .before .before .before .args .out .now) in
-    (opened (e .before .before .before .before .before) .accepted, long e .0, room-part {A = ℕ} mostBits n 0 (fits e) ∙ long e .1, long e .1)
+    let f = fits (c .before .before) in
+    (f .accepted, f .values, room-part {A = ℕ} mostBits _ 0 (f .few) ∙ f .places, f .places)
 
 same-length : tie.Need-same-length
 same-length c = search needs
@@ -84,10 +69,9 @@ returns-3 c =
     let l = c .before .before .before .before .before .before .before .before in
     let o = l .before .before .before .before .before in
     let a = o .before .before .before .before .args in
-    leaves-written isBit (a .bits .now) (a .out .now) capacityAll capacityAll capacityAll (λ sh. spread sh (a .bits .now)) (a .bytes .now)
-    (readLines (a .bytes .now)) (early-read (a .bytes .now)) (o .open-sheet .result) (begun-sheet (a .bytes .now) (o .open-sheet .result) (o .open-sheet .ensures))
-    (l .before .before .before .before .if1 .left) (l .before .capacity .ensures .0) (l .before .capacity .ensures .0) (l .look .result) (l .look .ensures)
-    (c .before .before .before .before .before .before .if2 .left) (l .before .capacity .ensures .0) (c .before .before .before .spread-bits .ensures)
+    moves-written isBit (a .bits .now) (a .out .now) (λ sh. spread sh (a .bits .now)) (a .bytes .now) (o .open-sheet .result) (o .open-sheet .ensures)
+    (l .before .before .before .before .if1 .left) (l .before .capacity .ensures .0) (l .look .result) (l .look .ensures)
+    (c .before .before .before .before .before .before .if2 .left) (c .before .before .before .spread-bits .ensures)
 
 pub spread-spec : {M : Type 1} → statement M
 spread-spec =

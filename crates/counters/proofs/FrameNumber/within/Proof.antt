@@ -11,7 +11,7 @@ rem-result : tie.Need-rem-result
 rem-result c = search needs
 
 returns : tie.Need-returns
-returns c = (refl, mod-lt _ (c .before .pre .0))
+returns c = (refl, mod-lt _ (c .before .pre))
 
 pub within-spec : {M : Type 1} → statement M
 within-spec = tie.close (tie.spec cast-result rem-result returns)

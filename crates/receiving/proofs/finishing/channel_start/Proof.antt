@@ -3,13 +3,14 @@ use mathlib.Core.Path.{_≡_, refl, ap, _∙_}
 use Prim.Native.Nat.{_*_, _-_, _≤_}
 use Rattle.laws.specs.Sums.{sumTo}
 use Rattle.laws.proofs.SumLaws.{sum-more}
+use Rattle.sheet.specs.Counts.{mostChannels, mostFrames}
 use Rattle.sheet.specs.Sizes.{equalisedOf}
 use Rattle.homing.specs.Home.{channelStart}
 use Rattle.receiving.proofs.finishing.channel_start.Statement.{statement}
 use Rattle.receiving.proofs.finishing.channel_start.Tie as tie
 
 abbrev Inv-loop : tie.InvT-loop
-Inv-loop i fields sum₀ j₀ sum j = (j ≤ i) × (i ≤ 8) × (sum ≡ sumTo (equalisedOf fields) j) × (sum ≤ 524280 * j)
+Inv-loop i fields sum₀ j₀ sum j = (j ≤ i) × (i ≤ mostChannels) × (sum ≡ sumTo (equalisedOf fields) j) × (sum ≤ mostFrames * 65535 * j)
 
 abbrev μ-loop : tie.MeasureT-loop
 μ-loop i fields sum₀ j₀ sum j = i - j

@@ -3,8 +3,8 @@ use mathlib.Core.Path.{_≡_, refl, ap, _∙_}
 use Prim.Native.Nat.{ℕ, _+_, _*_, _-_, _%_, _≤_, _<_}
 use Rattle.laws.specs.Tables.{table}
 use Rattle.bits.specs.Bits.{bitsAt}
-use Rattle.sheet.specs.Counts.{mostCodes}
-use Rattle.sheet.specs.Layout.{codesWidth, capacityWidth, slotWidth}
+use Rattle.sheet.specs.Counts.{mostChannels, mostCodes}
+use Rattle.sheet.specs.Layout.{codesWidth, capacityWidth, channelAt, slotWidth}
 use Rattle.sheet.specs.Fields.{slotFrom, phchsIn}
 use Rattle.sheet.specs.Reading.{slotsTo}
 use Rattle.sheet.proofs.SlotLaws.{phchs-most, slot-next, slot-begun, slot-more, slot-done}
@@ -13,14 +13,14 @@ use Rattle.sheet.proofs.fields.read_slots.Tie as tie
 
 abbrev Inv-loop2 : tie.InvT-loop2
 Inv-loop2 s start t r₀ at₀ i p j₀ r at j =
-    (j ≤ p) × (p ≡ phchsIn s start i) × (at ≡ slotFrom s start i + slotWidth j) × (at % 4 ≡ 0) × (at ≤ 212 + 196 * i + 12 * j)
+    (j ≤ p) × (p ≡ phchsIn s start i) × (at ≡ slotFrom s start i + slotWidth j) × (at % 4 ≡ 0) × (at ≤ channelAt mostChannels + slotWidth mostCodes * i + slotWidth j)
     × (r ≡ slotsTo s start (i + 1) (mostCodes * i + j))
 
 abbrev μ-loop2 : tie.MeasureT-loop2
 μ-loop2 s start t r₀ at₀ i p j₀ r at j = p - j
 
 abbrev Inv-loop : tie.InvT-loop
-Inv-loop s start t r₀ at₀ i₀ r at i = (i ≤ t) × (at ≡ slotFrom s start i) × (at % 4 ≡ 0) × (at ≤ 208 + 196 * i) × (r ≡ slotsTo s start i (mostCodes * i))
+Inv-loop s start t r₀ at₀ i₀ r at i = (i ≤ t) × (at ≡ slotFrom s start i) × (at % 4 ≡ 0) × (at ≤ channelAt mostChannels + slotWidth mostCodes * i) × (r ≡ slotsTo s start i (mostCodes * i))
 
 abbrev μ-loop : tie.MeasureT-loop
 μ-loop s start t r₀ at₀ i₀ r at i = t - i

@@ -7,7 +7,7 @@ use Rattle.laws.proofs.TestLaws.{or-first, or-second, or-third, or-none}
 use Rattle.bits.specs.Bits.{bitsAt}
 use Rattle.sheet.specs.Fields.{sheetOf}
 use Rattle.sheet.specs.Sizes.{bitsNeeded}
-use Rattle.sheet.proofs.NumberLaws.{wrongLength, spareSet, paddingSet}
+use Rattle.sheet.proofs.NumberLaws.{wrongLength, spareSet, paddingSet, spares-none, none-spare}
 use borrow.Author.Needs.{needs}
 use Rattle.sheet.proofs.reading.fails_fit.Statement.{statement}
 use Rattle.sheet.proofs.reading.fails_fit.Tie as tie
@@ -19,7 +19,7 @@ fits : (c : tie.Else1) → wrongLength (c .before .before .before .args .s .now)
 fits c = ap not (eq-eqb _ _ (c .if1 .left ∙ ap (λ (x : ℕ). (x + 7) / 8) (need-same (c .before))))
 
 spare : (c : tie.Else2) → spareSet (c .before .before .before .before .before .args .s .now) ≡ false
-spare c = ap not (eq-eqb _ _ (sym (c .before .read-field .ensures .0) ∙ c .if2 .left))
+spare c = ap not (eq-eqb _ _ (spares-none _ (sym (c .before .read-field .ensures .0) ∙ c .if2 .left)))
 
 padding : (c : tie.After-read-field2)
     → c .read-field2 .result ≡ (let s = c .before .before .before .before .before .before .args .s .now in bitsAt s (bitsNeeded (sheetOf s)) (8 * length s - bitsNeeded (sheetOf s)))
@@ -45,7 +45,7 @@ read-field-requires c κs = search needs
 returns-2 : tie.Need-returns-2
 returns-2 c =
     let s = c .before .before .before .before .before .args .s .now in
-    or-second (wrongLength s) (spareSet s) (paddingSet s) (ap not (ne-eqb _ _ (λ z. c .if2 .taken (c .before .read-field .ensures .0 ∙ z))))
+    or-second (wrongLength s) (spareSet s) (paddingSet s) (ap not (ne-eqb _ _ (λ z. c .if2 .taken (c .before .read-field .ensures .0 ∙ none-spare s z))))
 
 mul-read-field : tie.Need-mul-read-field
 mul-read-field c = search needs

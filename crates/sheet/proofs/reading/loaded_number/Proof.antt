@@ -3,10 +3,11 @@ use mathlib.Core.Bool.{true, false}
 use Prim.Native.Nat.{ℕ, _≤_, _<_}
 use borrow.Author.Tests.{lt-ltb, le-ltb}
 use lib.Dec.{ltb}
-use Rattle.counters.proofs.LineLaws.{here, past}
+use Rattle.counters.specs.Lines.{firstOf}
+use Rattle.counters.proofs.LineLaws.{linesFrom, here, past}
 use Rattle.sheet.specs.Counts.{mostBits}
-use Rattle.sheet.specs.Sizes.{equalisedAll, capacityAll}
-use Rattle.sheet.specs.Numbers.{emptyPlace}
+use Rattle.sheet.specs.Sizes.{capacityAll}
+use Rattle.sheet.specs.Numbers.{emptyPlace, loadLines}
 use Rattle.sheet.specs.declared.sizes.Load.{Load}
 use Rattle.sheet.proofs.SizeLaws.{load-capacity}
 use borrow.Author.Needs.{needs}
@@ -27,15 +28,18 @@ empty-is c = ap (λ (x : Load). x .empty) (c .pre .1)
 sum-is : (c : tie.Start) → c .args .load .sum ≡ capacityAll (c .args .fields)
 sum-is c = load-capacity (c .args .fields) (c .pre .1)
 
--- what each test that was passed says of its line
-places : (c : tie.Else1) → emptyPlace (c .before .args .fields) ≡ false
-places c = sym (empty-is (c .before)) ∙ c .if1 .left
+-- each test that was passed leaves the number to the lines after its own
+past-empty : (c : tie.Else1) {x : ℕ} → x ≡ firstOf (linesFrom 6 (loadLines (c .before .args .fields))) → x ≡ firstOf (loadLines (c .before .args .fields))
+past-empty c = past _ 5 _ (sym (empty-is (c .before)) ∙ c .if1 .left)
 
-sizes : (c : tie.Else2) → ltb mostBits (equalisedAll (c .before .before .before .args .fields)) ≡ false
-sizes c = under _ _ (c .before .all-equalised .ensures) (c .if2 .left)
+past-sizes : (c : tie.Else2) {x : ℕ} → x ≡ firstOf (linesFrom 7 (loadLines (c .before .before .before .args .fields))) → x ≡ firstOf (loadLines (c .before .before .before .args .fields))
+past-sizes c h = past-empty (c .before .before) (past _ 6 _ (under _ _ (c .before .all-equalised .ensures) (c .if2 .left)) h)
 
-room : (c : tie.Else3) → ltb mostBits (capacityAll (c .before .before .before .before .before .args .fields)) ≡ false
-room c = under _ _ (sum-is (c .before .before .before .before .before)) (c .if3 .left)
+past-room : (c : tie.Else3) {x : ℕ} → x ≡ firstOf (linesFrom 8 (loadLines (c .before .before .before .before .before .args .fields))) → x ≡ firstOf (loadLines (c .before .before .before .before .before .args .fields))
+past-room c h = past-sizes (c .before .before) (past _ 7 _ (under _ _ (sum-is (c .before .before .before .before .before)) (c .if3 .left)) h)
+
+past-silent : (c : tie.Else4) → 0 ≡ firstOf (loadLines (c .before .before .before .before .before .before .before .args .fields))
+past-silent c = past-room (c .before .before) (past _ 8 _ (sym (c .before .all-silent .ensures) ∙ c .if4 .left) refl)
 
 returns : tie.Need-returns
 returns c = here _ 5 _ (sym (empty-is (c .before)) ∙ c .if1 .taken)
@@ -44,27 +48,19 @@ all-equalised-requires : tie.Need-all-equalised-requires
 all-equalised-requires c κs = search needs
 
 returns-2 : tie.Need-returns-2
-returns-2 c = past _ 5 _ (places (c .before .before)) (here _ 6 _ (over _ _ (c .before .all-equalised .ensures) (c .if2 .taken)))
+returns-2 c = past-empty (c .before .before) (here _ 6 _ (over _ _ (c .before .all-equalised .ensures) (c .if2 .taken)))
 
 returns-3 : tie.Need-returns-3
-returns-3 c =
-    past _ 5 _ (places (c .before .before .before .before))
-    (past _ 6 _ (sizes (c .before .before)) (here _ 7 _ (over _ _ (sum-is (c .before .before .before .before .before)) (c .if3 .taken))))
+returns-3 c = past-sizes (c .before .before) (here _ 7 _ (over _ _ (sum-is (c .before .before .before .before .before)) (c .if3 .taken)))
 
 all-silent-requires : tie.Need-all-silent-requires
 all-silent-requires c κs = search needs
 
 returns-4 : tie.Need-returns-4
-returns-4 c =
-    past _ 5 _ (places (c .before .before .before .before .before .before))
-    (past _ 6 _ (sizes (c .before .before .before .before))
-    (past _ 7 _ (room (c .before .before)) (here _ 8 _ (sym (c .before .all-silent .ensures) ∙ c .if4 .taken))))
+returns-4 c = past-room (c .before .before) (here _ 8 _ (sym (c .before .all-silent .ensures) ∙ c .if4 .taken))
 
 returns-5 : tie.Need-returns-5
-returns-5 c =
-    past _ 5 _ (places (c .before .before .before .before .before .before))
-    (past _ 6 _ (sizes (c .before .before .before .before))
-    (past _ 7 _ (room (c .before .before)) (past _ 8 _ (sym (c .before .all-silent .ensures) ∙ c .if4 .left) refl)))
+returns-5 c = past-silent c
 
 pub loaded-number-spec : {M : Type 1} → statement M
 loaded-number-spec =

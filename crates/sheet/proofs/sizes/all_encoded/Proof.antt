@@ -1,16 +1,16 @@
 use native.Mathlib.Omega.{arith}
-use mathlib.Core.Path.{_≡_, refl, ap, _∙_}
-use Prim.Native.Nat.{_*_, _-_, _≤_}
+use mathlib.Core.Path.{ap, _∙_}
+use Prim.Native.Nat.{_-_}
 use lib.ListN.{getD}
 use Rattle.laws.specs.Sums.{sumTo}
-use Rattle.laws.proofs.SumLaws.{sum-more}
+use Rattle.laws.proofs.SumLaws.{Summed, summed-none, summed-more, summed-all}
 use Rattle.sheet.specs.Fields.{encodedOf}
 use borrow.Author.Needs.{needs}
 use Rattle.sheet.proofs.sizes.all_encoded.Statement.{statement}
 use Rattle.sheet.proofs.sizes.all_encoded.Tie as tie
 
 abbrev Inv-loop : tie.InvT-loop
-Inv-loop n e sum₀ i₀ sum i = (i ≤ n) × (sum ≡ sumTo (λ k. getD e k 0) i) × (sum ≤ 65535 * i)
+Inv-loop n e sum₀ i₀ sum i = Summed (λ k. getD e k 0) 65535 n sum i
 
 abbrev μ-loop : tie.MeasureT-loop
 μ-loop n e sum₀ i₀ sum i = n - i
@@ -19,8 +19,7 @@ count-requires : tie.Need-count-requires Inv-loop μ-loop
 count-requires c κs = search needs
 
 loop-holds : tie.Need-loop-holds Inv-loop μ-loop
-unfolding sumTo
-loop-holds c = (omega arith, refl, omega arith)
+loop-holds c = summed-none _ _ _
 
 mul-wide : tie.Need-mul-wide Inv-loop μ-loop
 mul-wide c = omega arith
@@ -41,16 +40,11 @@ loop-less : tie.Need-loop-less Inv-loop μ-loop
 loop-less c = omega arith
 
 loop-again : tie.Need-loop-again Inv-loop μ-loop
-loop-again c =
-    let l = c .before .before .loop in
-    (omega arith, sum-more (encodedOf (c .before .before .before .before .before .args .fields)) (l .i) (l .inv .1) (c .wide .ensures .0), omega arith)
+loop-again c = summed-more (c .before .before .loop .inv) (omega arith) (c .wide .ensures .0) (c .wide .ensures .1)
 
 returns : tie.Need-returns Inv-loop μ-loop
 returns c =
-    let f = c .before .before .before .before .args .fields in
-    let l = c .before .loop in
-    let e : l .i ≡ f .channels = omega arith in
-    l .inv .1 ∙ ap (sumTo (encodedOf f)) e
+    summed-all (c .before .loop .inv) (omega arith) ∙ ap (sumTo (encodedOf (c .before .before .before .before .args .fields))) (c .before .before .before .count .ensures .0)
 
 pub all-encoded-spec : {M : Type 1} → statement M
 all-encoded-spec =

@@ -1,17 +1,17 @@
 use native.Mathlib.Omega.{arith}
-use mathlib.Core.Path.{_≡_, refl, ap, _∙_}
-use Prim.Native.Nat.{_*_, _-_, _≤_}
+use mathlib.Core.Path.{ap, _∙_}
+use Prim.Native.Nat.{_*_, _-_}
 use lib.ListN.{getD}
 use Rattle.laws.specs.Sums.{sumTo}
-use Rattle.laws.proofs.SumLaws.{sum-more}
+use Rattle.laws.proofs.SumLaws.{Summed, summed-none, summed-more, summed-all}
+use Rattle.sheet.specs.Counts.{mostFrames}
 use Rattle.sheet.specs.Sizes.{framesIn, segmentIn, equalisedOf}
 use borrow.Author.Needs.{needs}
 use Rattle.sheet.proofs.sizes.all_equalised.Statement.{statement}
 use Rattle.sheet.proofs.sizes.all_equalised.Tie as tie
 
 abbrev Inv-loop : tie.InvT-loop
-Inv-loop n e tti sum₀ i₀ sum i =
-    (i ≤ n) × (sum ≡ sumTo (λ k. framesIn (getD tti k 0) * segmentIn (getD e k 0) (framesIn (getD tti k 0))) i) × (sum ≤ 524280 * i)
+Inv-loop n e tti sum₀ i₀ sum i = Summed (λ k. framesIn (getD tti k 0) * segmentIn (getD e k 0) (framesIn (getD tti k 0))) (mostFrames * 65535) n sum i
 
 abbrev μ-loop : tie.MeasureT-loop
 μ-loop n e tti sum₀ i₀ sum i = n - i
@@ -20,8 +20,7 @@ count-requires : tie.Need-count-requires Inv-loop μ-loop
 count-requires c κs = search needs
 
 loop-holds : tie.Need-loop-holds Inv-loop μ-loop
-unfolding sumTo
-loop-holds c = (omega arith, refl, omega arith)
+loop-holds c = summed-none _ _ _
 
 mul-equalised : tie.Need-mul-equalised Inv-loop μ-loop
 mul-equalised c = omega arith
@@ -48,16 +47,11 @@ loop-less : tie.Need-loop-less Inv-loop μ-loop
 loop-less c = omega arith
 
 loop-again : tie.Need-loop-again Inv-loop μ-loop
-loop-again c =
-    let l = c .before .before .loop in
-    (omega arith, sum-more (equalisedOf (c .before .before .before .before .before .before .args .fields)) (l .i) (l .inv .1) (c .equalised .ensures .0), omega arith)
+loop-again c = summed-more (c .before .before .loop .inv) (omega arith) (c .equalised .ensures .0) (c .equalised .ensures .1)
 
 returns : tie.Need-returns Inv-loop μ-loop
 returns c =
-    let f = c .before .before .before .before .before .args .fields in
-    let l = c .before .loop in
-    let e : l .i ≡ f .channels = omega arith in
-    l .inv .1 ∙ ap (sumTo (equalisedOf f)) e
+    summed-all (c .before .loop .inv) (omega arith) ∙ ap (sumTo (equalisedOf (c .before .before .before .before .before .args .fields))) (c .before .before .before .before .count .ensures .0)
 
 pub all-equalised-spec : {M : Type 1} → statement M
 all-equalised-spec =

@@ -4,7 +4,7 @@ use Prim.Native.Nat.{_+_, _*_, _-_, _≤_}
 use lib.ListN.{getD}
 use Rattle.laws.specs.Sums.{sumTo}
 use Rattle.laws.proofs.SumLaws.{sum-more}
-use Rattle.sheet.specs.Counts.{mostCodes}
+use Rattle.sheet.specs.Counts.{mostChannels, mostCodes}
 use Rattle.sheet.specs.Layout.{channelAt, slotWidth}
 use Rattle.sheet.specs.Fields.{phchsOf}
 use Rattle.sheet.specs.Sizes.{slotAt}
@@ -13,7 +13,7 @@ use Rattle.sheet.proofs.sizes.bits_needed.Statement.{statement}
 use Rattle.sheet.proofs.sizes.bits_needed.Tie as tie
 
 abbrev Inv-loop : tie.InvT-loop
-Inv-loop n phchs sum₀ t₀ sum t = (t ≤ n) × (sum ≡ sum₀ + sumTo (λ k. slotWidth (getD phchs k 0)) t) × (sum ≤ 208 + 196 * t)
+Inv-loop n phchs sum₀ t₀ sum t = (t ≤ n) × (sum ≡ sum₀ + sumTo (λ k. slotWidth (getD phchs k 0)) t) × (sum ≤ channelAt mostChannels + slotWidth mostCodes * t)
 
 abbrev μ-loop : tie.MeasureT-loop
 μ-loop n phchs sum₀ t₀ sum t = n - t

@@ -1,7 +1,4 @@
-use native.Mathlib.Omega.{arith}
-use Prim.Native.Nat.{_≤_}
-use lib.Pow.{pow-mono, pow-pos}
-use Rattle.sheet.proofs.SizeLaws.{shifted}
+use Rattle.sheet.proofs.SizeLaws.{frames-are}
 use borrow.Author.Needs.{needs}
 use Rattle.sheet.proofs.sizes.frames.Statement.{statement}
 use Rattle.sheet.proofs.sizes.frames.Tie as tie
@@ -10,10 +7,7 @@ shl-result : tie.Need-shl-result
 shl-result c = search needs
 
 returns : tie.Need-returns
-returns c =
-    let x = c .args .tti in
-    let h : x ≤ 3 = c .pre in
-    (shifted x h, omega (arith, shifted x h, pow-pos x), omega (arith, shifted x h, pow-mono h))
+returns c = frames-are (c .args .tti) (c .pre)
 
 pub frames-spec : {M : Type 1} → statement M
 frames-spec = tie.close (tie.spec shl-result returns)

@@ -4,8 +4,8 @@ use mathlib.Core.Path.{_≡_, refl, sym, ap, _∙_, subst}
 use Prim.Native.Nat.{ℕ, _+_, _-_, _*_, _≤_}
 use Rattle.laws.specs.Sums.{sumTo}
 use Rattle.laws.proofs.SumLaws.{sum-more}
-use Rattle.sheet.specs.Counts.{mostCodes}
-use Rattle.sheet.specs.Layout.{slotWidth}
+use Rattle.sheet.specs.Counts.{mostChannels, mostCodes}
+use Rattle.sheet.specs.Layout.{channelAt, slotWidth}
 use Rattle.sheet.specs.Fields.{phchsOf}
 use Rattle.sheet.specs.Sizes.{slotAt}
 use Rattle.writing.specs.Written.{slotsBits, Holds}
@@ -14,7 +14,7 @@ use Rattle.writing.proofs.written.put_slots.Statement.{statement}
 use Rattle.writing.proofs.written.put_slots.Tie as tie
 
 abbrev Inv-loop : tie.InvT-loop
-Inv-loop bs₀ fields n at₀ t₀ bs at t = (t ≤ n) × (at ≡ slotAt fields t) × (at ≤ 208 + 196 * t) × Holds bs room (slotsBits fields t)
+Inv-loop bs₀ fields n at₀ t₀ bs at t = (t ≤ n) × (at ≡ slotAt fields t) × (at ≤ channelAt mostChannels + slotWidth mostCodes * t) × Holds bs room (slotsBits fields t)
 
 abbrev μ-loop : tie.MeasureT-loop
 μ-loop bs₀ fields n at₀ t₀ bs at t = n - t

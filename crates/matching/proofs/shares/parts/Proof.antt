@@ -1,26 +1,27 @@
 use native.Mathlib.Omega.{arith}
-use mathlib.Core.Path.{_≡_, refl, ap, _∙_}
+use mathlib.Core.Path.{_≡_, refl, _∙_}
 use Prim.Native.Nat.{_*_, _-_, _≤_}
 use Rattle.laws.specs.Sums.{sumTo}
 use Rattle.laws.proofs.SumLaws.{sum-more}
-use Rattle.matching.specs.Shares.{weightOf}
-use Rattle.matching.proofs.ShareLaws.{weightsIn}
+use Rattle.sheet.specs.Counts.{mostEncoded, mostRatio}
+use Rattle.matching.proofs.ShareLaws.{weightsIn, filledTo, fill-first, fill-more, parts-all}
 use borrow.Author.Needs.{needs}
-use Rattle.matching.proofs.shares.weight_all.Statement.{statement}
-use Rattle.matching.proofs.shares.weight_all.Tie as tie
+use Rattle.matching.proofs.shares.parts.Statement.{statement}
+use Rattle.matching.proofs.shares.parts.Tie as tie
 
 abbrev Inv-loop : tie.InvT-loop
-Inv-loop n rm e tti sum₀ i₀ sum i = (i ≤ n) × (sum ≡ sumTo (weightsIn rm e tti) i) × (sum ≤ 4194048 * i)
+Inv-loop n rm e tti all₀ part₀ i₀ all part i =
+    (i ≤ n) × (part ≡ sumTo (weightsIn rm e tti) i) × (part ≤ mostRatio * mostEncoded * i) × (all ≡ filledTo (sumTo (weightsIn rm e tti)) i)
 
 abbrev μ-loop : tie.MeasureT-loop
-μ-loop n rm e tti sum₀ i₀ sum i = n - i
+μ-loop n rm e tti all₀ part₀ i₀ all part i = n - i
 
 count-requires : tie.Need-count-requires Inv-loop μ-loop
 count-requires c κs = search needs
 
 loop-holds : tie.Need-loop-holds Inv-loop μ-loop
 unfolding sumTo
-loop-holds c = (omega arith, refl, omega arith)
+loop-holds c = (omega arith, refl, omega arith, fill-first _ refl)
 
 mul-weight : tie.Need-mul-weight Inv-loop μ-loop
 mul-weight c = omega arith
@@ -46,11 +47,17 @@ weight-requires c κs =
     let i = c .before .loop .i in
     (r .ratio256 i (omega arith), r .encoded i (omega arith), r .tti i (omega arith))
 
-add-sum : tie.Need-add-sum Inv-loop μ-loop
-add-sum c = omega arith
+add-part : tie.Need-add-part Inv-loop μ-loop
+add-part c = omega arith
 
 add-i : tie.Need-add-i Inv-loop μ-loop
 add-i c = omega arith
+
+mul-all : tie.Need-mul-all Inv-loop μ-loop
+mul-all c = omega arith
+
+array-write-all : tie.Need-array-write-all Inv-loop μ-loop
+array-write-all c = omega arith
 
 loop-less : tie.Need-loop-less Inv-loop μ-loop
 loop-less c = omega arith
@@ -58,17 +65,16 @@ loop-less c = omega arith
 loop-again : tie.Need-loop-again Inv-loop μ-loop
 loop-again c =
     let l = c .before .before .loop in
-    (omega arith, sum-more (weightOf (c .before .before .before .before .before .before .before .args .fields)) (l .i) (l .inv .1) (c .weight .ensures .0), omega arith)
+    let p = sum-more _ (l .i) (l .inv .1) (c .weight .ensures .0) in
+    (omega arith, p, omega arith, fill-more _ (l .i) (l .all) (omega arith) (l .inv .3) p)
 
 returns : tie.Need-returns Inv-loop μ-loop
 returns c =
-    let f = c .before .before .before .before .before .before .args .fields in
     let l = c .before .loop in
-    let e : l .i ≡ f .channels = omega arith in
-    l .inv .1 ∙ ap (sumTo (weightOf f)) e
+    l .inv .3 ∙ parts-all (c .before .before .before .before .before .before .args .fields) (l .i) (omega arith)
 
-pub weight-all-spec : {M : Type 1} → statement M
-weight-all-spec =
+pub parts-spec : {M : Type 1} → statement M
+parts-spec =
     tie.close
     (tie.spec
     Inv-loop
@@ -82,8 +88,10 @@ weight-all-spec =
     mul-weight-3
     array-read-weight-3
     weight-requires
-    add-sum
+    add-part
     add-i
+    mul-all
+    array-write-all
     loop-less
     loop-again
     returns)
