@@ -1,9 +1,9 @@
-# make run: a first look. make test: everything, as the gate runs it. make ctest: the edit loop. make soak. make bench. make stack. make clean.
+# make run: a first look. make test: everything, as the gate runs it. make ctest: the edit loop. make soak. make bench. make stack. make map. make clean.
 # make install, make uninstall, [PREFIX=..] [DESTDIR=..]: the kit of a release.
 
 SHELL := /bin/bash
 .SHELLFLAGS := -eu -o pipefail -c
-.PHONY: help run test ctest soak bench stack setup clean
+.PHONY: help run test ctest soak bench stack map setup clean
 .DEFAULT_GOAL := help
 .NOTPARALLEL: # rt works with all processors by itself, and rt ci removes target/
 
@@ -67,6 +67,7 @@ ctest: target/c/calls target/c/values target/c/vectors target/c/random target/c/
 	tests/kit.sh $(CC) $(RUN)
 	tests/reading.sh
 	tests/promises.sh
+	tests/map.sh
 
 # The kit: archive, header, pkg-config file, manual page, papers and examples. The header says its release and its calls,
 # docs/SPEED.md the stack of each call.
@@ -113,6 +114,10 @@ bench: setup target/c/bench
 # Bytes of stack that each call needs, measured: the same table wherever the same archive runs.
 stack: setup target/c/stack
 	@bench/stack $(RUN) target/c/stack
+
+# The picture of the crates that README.md shows.
+map:
+	@svg=$$(LC_ALL=C awk -f tests/map.awk crates.txt); echo "$$svg" > docs/map.svg
 
 # Installs only what is missing: asked by linking a program and running it, and by running pkg-config.
 setup:
