@@ -39,11 +39,12 @@ run:
 	rt check tour
 	@$(RUN) target/bin/tour
 
-# The log is kept outside target/ while rt ci runs, which removes that. The line with the verdict comes last, if all passed.
+# The log is kept outside target/ while rt ci runs, which removes that; shown is how far it is. The line with the verdict comes last, if all passed.
 test: setup
 	@log=$$(mktemp); status=0; \
-	rt ci 2>&1 | tee $$log || status=$$?; \
+	rt ci 2>&1 | tee $$log | tests/progress.sh || status=$$?; \
 	install -D -m 644 $$log target/ci.log; rm $$log; exit $$status
+	@echo 'all of it is in target/ci.log; now the archive and the C tests'
 	@$(MAKE) --no-print-directory ctest
 	@tail -n 1 target/ci.log | grep -Ex '[0-9]+ passed, 0 failed'
 
