@@ -1,9 +1,9 @@
-# make run: a first look. make test: everything, as the gate runs it. make ctest: the edit loop. make soak. make bench. make stack. make map. make clean.
+# make run: a first look. make test: everything, as the gate runs it. make ctest: the edit loop. make soak. make bench. make stack. make map. make figures. make clean.
 # make install, make uninstall, [PREFIX=..] [DESTDIR=..]: the kit of a release.
 
 SHELL := /bin/bash
 .SHELLFLAGS := -eu -o pipefail -c
-.PHONY: help run test ctest soak bench stack map setup clean
+.PHONY: help run test ctest soak bench stack map figures setup clean
 .DEFAULT_GOAL := help
 .NOTPARALLEL: # rt works with all processors by itself, and rt ci removes target/
 
@@ -119,6 +119,10 @@ stack: setup target/c/stack
 # The picture of the crates that README.md shows.
 map:
 	@svg=$$(LC_ALL=C awk -f tests/map.awk crates.txt); echo "$$svg" > docs/map.svg
+
+# The row of docs/landings/README.md for the files as they are.
+figures:
+	@tests/figures.sh
 
 # Installs only what is missing: asked by linking a program and running it, and by running pkg-config.
 setup:
