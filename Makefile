@@ -1,9 +1,9 @@
-# make run: a first look. make test: everything, as the gate runs it. make ctest: the edit loop. make soak. make bench. make stack. make clean.
+# make run: a first look. make test: everything, as the gate runs it. make ctest: the edit loop. make soak. make bench. make stack. make map. make figures. make clean.
 # make install, make uninstall, [PREFIX=..] [DESTDIR=..]: the kit of a release.
 
 SHELL := /bin/bash
 .SHELLFLAGS := -eu -o pipefail -c
-.PHONY: help run test ctest soak bench stack setup clean
+.PHONY: help run test ctest soak bench stack map figures setup clean
 .DEFAULT_GOAL := help
 .NOTPARALLEL: # rt works with all processors by itself, and rt ci removes target/
 
@@ -39,11 +39,12 @@ run:
 	rt check tour
 	@$(RUN) target/bin/tour
 
-# The log is kept outside target/ while rt ci runs, which removes that. The line with the verdict comes last, if all passed.
+# The log is kept outside target/ while rt ci runs, which removes that; shown is how far it is. The line with the verdict comes last, if all passed.
 test: setup
 	@log=$$(mktemp); status=0; \
-	rt ci 2>&1 | tee $$log || status=$$?; \
+	rt ci 2>&1 | tee $$log | tests/progress.sh || status=$$?; \
 	install -D -m 644 $$log target/ci.log; rm $$log; exit $$status
+	@echo 'all of it is in target/ci.log; now the archive and the C tests'
 	@$(MAKE) --no-print-directory ctest
 	@tail -n 1 target/ci.log | grep -Ex '[0-9]+ passed, 0 failed'
 
@@ -67,6 +68,7 @@ ctest: target/c/calls target/c/values target/c/vectors target/c/random target/c/
 	tests/kit.sh $(CC) $(RUN)
 	tests/reading.sh
 	tests/promises.sh
+	tests/map.sh
 
 # The kit: archive, header, pkg-config file, manual page, papers and examples. The header says its release and its calls,
 # docs/SPEED.md the stack of each call.
@@ -113,6 +115,14 @@ bench: setup target/c/bench
 # Bytes of stack that each call needs, measured: the same table wherever the same archive runs.
 stack: setup target/c/stack
 	@bench/stack $(RUN) target/c/stack
+
+# The picture of the crates that README.md shows.
+map:
+	@svg=$$(LC_ALL=C awk -f tests/map.awk crates.txt); echo "$$svg" > docs/map.svg
+
+# The row of docs/landings/README.md for the files as they are.
+figures:
+	@tests/figures.sh
 
 # Installs only what is missing: asked by linking a program and running it, and by running pkg-config.
 setup:

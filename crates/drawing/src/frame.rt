@@ -11,6 +11,7 @@ use crate::scale::head;
 use crate::scale::height;
 use crate::scale::line;
 use crate::scale::lines;
+use crate::scale::start;
 use crate::scale::step;
 use crate::scale::taken;
 use crate::text::ROOM;
@@ -80,13 +81,11 @@ fn say_starts(out: &mut [u8; ROOM], at: usize, scale: Scale, y: u64, n: u16) -> 
     let rows = lines(scale, n);
     let mut k = at;
     let mut row: u64 = 0;
-    let mut place: u64 = 1;
     while row < rows {
         let a = open_text(out, k, b"n", LEFT - 4, y + height(scale, row));
-        let b = number(out, a, place);
+        let b = number(out, a, start(scale, row));
         k = close_text(out, b);
         row += 1;
-        place += line(scale) as u64;
     }
     k
 }

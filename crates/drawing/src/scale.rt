@@ -77,6 +77,17 @@ pub fn lines(scale: Scale, n: u16) -> u64
     }
 }
 
+// The number of the place that a line of a PhCH begins with, by the number of lines before it.
+pub fn start(scale: Scale, rows: u64) -> u64
+    requires { ⌜ rows ≤ 65535 ⌝ }
+{
+    match scale {
+        Scale::Large => rows * 50 + 1,
+        Scale::Middle => rows * 100 + 1,
+        Scale::Small => rows * 250 + 1,
+    }
+}
+
 // The room below a PhCH.
 fn gap(scale: Scale) -> u64
     ensures { λ r. ⌜ r ≤ 8 ⌝ }

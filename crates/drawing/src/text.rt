@@ -1,4 +1,6 @@
 // Text gathered in a buffer, so that the system is asked once for a few thousand bytes. `at` is how many of them wait to be written.
+ghost use Prim.Native.Nat.{_+_, _≤_};
+ghost use lib.ListN.{length};
 use libc::STDOUT_FILENO;
 
 pub const ROOM: usize = 4096;
@@ -11,25 +13,24 @@ pub fn flush(out: &[u8; ROOM], at: usize) {
     }
 }
 
-fn put(out: &mut [u8; ROOM], at: usize, byte: u8) -> usize {
-    if at < ROOM {
-        out[at] = byte;
-        return at + 1;
-    }
-    flush(out, at);
-    out[0] = byte;
-    1
+fn lay(out: &mut [u8], at: usize, text: &[u8])
+    requires { ⌜ at + length (now text) ≤ length (now out) ⌝ }
+{
+    let end = at + text.len();
+    bytes::copy(text, &mut out[at..end]);
 }
 
-// Each of these adds to the text and answers how many bytes wait then.
+// Each of these adds to the text and answers how many bytes wait then. A text that has no room is written at once, after what waits.
 pub fn say(out: &mut [u8; ROOM], at: usize, text: &[u8]) -> usize {
-    let mut k = at;
-    let mut i: usize = 0;
-    while i < text.len() {
-        k = put(out, k, text[i]);
-        i += 1;
+    if at <= ROOM {
+        if text.len() <= ROOM - at {
+            lay(out, at, text);
+            return at + text.len();
+        }
     }
-    k
+    flush(out, at);
+    io::write_all(STDOUT_FILENO, text);
+    0
 }
 
 pub fn number(out: &mut [u8; ROOM], at: usize, n: u64) -> usize {

@@ -1,7 +1,7 @@
 -- Text that is put behind text, and the digits of a number.
-use mathlib.Core.Path.{_≡_, sym, ap, _∙_, subst}
+use mathlib.Core.Path.{_≡_, sym, ap, ap₂, _∙_, subst}
 use mathlib.Core.Bool.{Bool, cond}
-use mathlib.Core.List.{List, [], _∷_, _++_}
+use mathlib.Core.List.{List, [], _∷_, _++_, append-nil, append-assoc}
 use Prim.Native.Nat.{ℕ, zero, suc, _+_, _-_, _^_, _≤_, _<_}
 use native.Mathlib.Nat.{sub-zero, zero-sub, suc-sub-suc, pow-le-pow-right, le-trans}
 use native.Mathlib.Numerals.{add-one}
@@ -9,7 +9,8 @@ use native.Mathlib.Omega.{arith}
 use native.Mathlib.Decide.{decLt}
 use borrow.Author.Tests.{lt-ltb, le-ltb}
 use lib.Dec.{ltb, lit<}
-use lib.ListN.{length, drop, replicate, length-append}
+use borrow.Rule.Slice.PartMut.{midOf, putMid, mid-len, post-is}
+use lib.ListN.{length, take, drop, replicate, length-append, drop-of-length-le}
 use lib.Seq.{paste, length-paste}
 use Rattle.laws.proofs.LaidLaws.{laid-none, laid-more, laid-long}
 use Rattle.io.specs.Digits.{digits, Fewest}
@@ -22,6 +23,16 @@ use Rattle.matching.specs.Shares.{shareOf}
 use Rattle.listing.specs.Listing.{room, leastFrom, decimalOf, Lists, linesTo, headLine, withLine, refusal, listingOf, textOf, followed}
 use Rattle.listing.specs.Ascii.{ascii}
 use Rattle.listing.specs.declared.Text.{Text}
+
+-- a part that was lent came back as a copy of t
+pub copied : (out : List ℕ) (at : ℕ) (t : List ℕ) → at + length t ≤ length out → {y : List ℕ}
+    → y ≡ take (length t) t ++ drop (length t) (midOf at (at + length t - at) out) → putMid at (at + length t - at) out y ≡ paste out at t (length t)
+copied out at t b {y} e =
+    let n = length t in
+    let rest = midOf at (at + n - at) out in
+    let z : length rest ≤ n = omega (arith, mid-len at (at + n) out b) in
+    let whole : y ≡ take n t = e ∙ ap (λ (x : List ℕ). take n t ++ x) (drop-of-length-le rest z) ∙ append-nil (take n t) in
+    ap₂ (λ (x l : List ℕ). take at out ++ (x ++ l)) whole (post-is at (at + n) out (omega arith)) ∙ sym (append-assoc (take at out) (take n t) (drop (at + n) out))
 
 -- a text put behind a text
 pub lists-none : (o : List ℕ) → length o ≡ room → Lists o o 0 []

@@ -27,12 +27,9 @@ fn put(out: &mut [u8], at: usize, text: &[u8]) -> usize
     requires { ⌜ at + length (now text) ≤ length (now out) ⌝ }
     ensures { λ r. ⌜ (r ≡ at + length (now (text .entry))) × (now (out .exit) ≡ paste (now (out .entry)) at (now (text .entry)) (length (now (text .entry)))) ⌝ }
 {
-    let mut i: usize = 0;
-    while i < text.len() {
-        out[at + i] = text[i];
-        i += 1;
-    }
-    at + i
+    let end = at + text.len();
+    bytes::copy(text, &mut out[at..end]);
+    end
 }
 
 fn put_number(out: &mut [u8], at: usize, n: u64) -> usize

@@ -13,6 +13,9 @@ use ummervia::finish;
 use ummervia::sheet_read;
 use ummervia::take_back;
 
+// The most values of a frame or of a channel that the tour has.
+const ROOM: usize = 64;
+
 // The places of a frame, counted from 0, at which nothing is heard: those from `from` on, before `to`.
 pub struct Silence {
     pub from: usize,
@@ -46,19 +49,17 @@ fn hear(frame: &[u8], silence: Silence, heard: &mut [f32])
     }
 }
 
-// One frame is built, sent, heard and taken back.
-pub fn send(
+// A frame is heard and taken back.
+fn take(
     sheet: &[u8],
     number: FrameNumber,
-    contents: &[u8],
+    frame: &[u8],
     silence: Silence,
-    frame: &mut [u8],
     heard: &mut [f32],
     joined: &mut [f32],
 )
     requires { ⌜ length (now frame) ≡ length (now heard) ⌝ }
 {
-    build(sheet, number, contents, frame);
     hear(frame, silence, heard);
     let taken = take_back(sheet, number, heard, joined);
     if taken.number != 0 {
@@ -66,23 +67,20 @@ pub fn send(
     }
 }
 
-// The frames from `first` on, before the one of that number, all heard whole.
-pub fn send_before(
+// One frame is built, sent, heard and taken back. The room lent has to hold its values.
+fn send(
     sheet: &[u8],
-    first: u32,
     number: FrameNumber,
     contents: &[u8],
+    silence: Silence,
     frame: &mut [u8],
-    heard: &mut [f32],
+    room: &mut [f32],
     joined: &mut [f32],
-)
-    requires { ⌜ length (now frame) ≡ length (now heard) ⌝ }
-{
-    let none = Silence { from: 0, to: 0 };
-    let mut n = first;
-    while number.is_over(n) {
-        send(sheet, FrameNumber(n), contents, none, frame, heard, joined);
-        n += 1;
+) {
+    build(sheet, number, contents, frame);
+    let n = frame.len();
+    if n <= room.len() {
+        take(sheet, number, frame, silence, &mut room[..n], joined);
     }
 }
 
@@ -143,7 +141,7 @@ fn say_channel(sheet: &[u8], trch: TrchNumber, joined: &[f32], room: &mut [f32],
 }
 
 // A line for each channel. The room lent has to hold the longest; channels past I have no bits.
-pub fn say_home(sheet: &[u8], joined: &[f32], room: &mut [f32]) {
+fn say_home(sheet: &[u8], joined: &[f32], room: &mut [f32]) {
     let read = sheet_read(sheet);
     let fields = read.sheet;
     let e = fields.e;
@@ -155,4 +153,33 @@ pub fn say_home(sheet: &[u8], joined: &[f32], room: &mut [f32]) {
         }
         i += 1;
     }
+}
+
+// The frames from `first` on are sent and heard whole, then the last one, with the silence; and what came home is said.
+pub fn come_home(
+    sheet: &[u8],
+    first: u32,
+    last: FrameNumber,
+    contents: &[u8],
+    silence: Silence,
+    frame: &mut [u8],
+    joined: &mut [f32],
+) {
+    let mut room = [0.0f32; ROOM];
+    let none = Silence { from: 0, to: 0 };
+    let mut n = first;
+    while last.is_over(n) {
+        send(
+            sheet,
+            FrameNumber(n),
+            contents,
+            none,
+            frame,
+            &mut room,
+            joined,
+        );
+        n += 1;
+    }
+    send(sheet, last, contents, silence, frame, &mut room, joined);
+    say_home(sheet, joined, &mut room);
 }

@@ -3,15 +3,12 @@
 ghost use mathlib.Core.Path.{_≡_};
 ghost use lib.ListN.{length};
 use crate::home::Silence;
-use crate::home::say_home;
-use crate::home::send;
-use crate::home::send_before;
+use crate::home::come_home;
 use crate::saying::say;
 use crate::saying::say_bytes;
 use crate::saying::say_contents;
 use crate::saying::say_frame;
 use crate::saying::say_listing;
-use crate::saying::say_names;
 use crate::saying::say_number;
 use crate::saying::say_refused;
 use counters::FrameNumber;
@@ -35,13 +32,13 @@ fn tour(title: &[u8], sheet: &[u8], number: FrameNumber, contents: &[u8], frame:
     let read = sheet_read(sheet);
     let fields = read.sheet;
     say(b"contents:");
-    say_contents(fields, contents);
+    let e = fields.e;
+    say_contents(sheet, number, e, contents);
     say(b"\nframe number ");
     say_number(number.number());
     say(b", the frame:\n");
-    say_frame(fields, frame);
-    say(b"the name of each place:\n");
-    say_names(sheet, number, fields);
+    let caps = fields.caps;
+    say_frame(sheet, number, caps, frame);
 }
 
 fn bit(digit: u8) -> u8 {
@@ -61,32 +58,21 @@ fn contents_of(text: &[u8], contents: &mut [u8])
 
 fn example() {
     let sheet: &[u8] = b"\x10\x10\x00\x06\x00\x00\x04";
-    let number = FrameNumber(0);
+    let last = FrameNumber(0);
     let mut contents = [0u8; 6];
     let mut frame = [0u8; 4];
     contents_of(b"101100", &mut contents);
     tour(
         b"\nthe document's example:",
         sheet,
-        number,
+        last,
         &contents,
         &mut frame,
     );
-    let mut heard = [0.0f32; 4];
-    let mut joined = [0.0f32; 6];
-    let mut room = [0.0f32; 6];
     say(b"sent; place 2 is silent; what came home:\n");
     let silence = Silence { from: 1, to: 2 };
-    send(
-        sheet,
-        number,
-        &contents,
-        silence,
-        &mut frame,
-        &mut heard,
-        &mut joined,
-    );
-    say_home(sheet, &joined, &mut room);
+    let mut joined = [0.0f32; 6];
+    come_home(sheet, 0, last, &contents, silence, &mut frame, &mut joined);
 }
 
 // Mode 1; channels of 40, 20 and 10 ms with E 17, 19 and 30, RM 4, 6 and 3; a slot of capacities 7 and 5, one of 14, 10 and 8.
@@ -94,7 +80,7 @@ fn example() {
 fn three_channels() {
     let sheet: &[u8] =
         b"\x1a\x20\x80\x11\x03\x40\x13\x05\x00\x1e\x02\x10\x07\x00\x52\x00\xe0\x0a\x00\x80";
-    let number = FrameNumber(7);
+    let last = FrameNumber(7);
     let mut contents = [0u8; 66];
     let mut frame = [0u8; 44];
     contents_of(
@@ -104,34 +90,14 @@ fn three_channels() {
     tour(
         b"\nthree channels over two slots:",
         sheet,
-        number,
+        last,
         &contents,
         &mut frame,
     );
-    let mut heard = [0.0f32; 44];
-    let mut joined = [0.0f32; 70];
-    let mut room = [0.0f32; 30];
     say(b"frames 4 to 7 sent; in frame 7 slot 1 PhCH 2 is silent; what came home:\n");
-    send_before(
-        sheet,
-        4,
-        number,
-        &contents,
-        &mut frame,
-        &mut heard,
-        &mut joined,
-    );
     let silence = Silence { from: 7, to: 12 };
-    send(
-        sheet,
-        number,
-        &contents,
-        silence,
-        &mut frame,
-        &mut heard,
-        &mut joined,
-    );
-    say_home(sheet, &joined, &mut room);
+    let mut joined = [0.0f32; 70];
+    come_home(sheet, 4, last, &contents, silence, &mut frame, &mut joined);
 }
 
 fn main() {

@@ -1,12 +1,12 @@
 // What is printed of a sheet and of its frame.
-ghost use Prim.Native.Nat.{_≤_};
+ghost use Prim.Native.Nat.{_≤_, _<_};
 ghost use lib.ListN.{length};
+ghost use Rattle.sheet.specs.Counts.{mostCapacities};
 use counters::FrameNumber;
 use counters::PhchNumber;
 use libc::STDOUT_FILENO;
 use listing::list_sheet;
 use naming::PlaceName;
-use sheet::Sheet;
 use sheet::count;
 use sheet::counts::CAPACITIES;
 use sheet::counts::CHANNELS;
@@ -26,14 +26,19 @@ fn wide(x: u8) -> u64 {
     x as u64
 }
 
-// The bytes of a sheet in hexadecimal.
-pub fn say_bytes(bytes: &[u8]) {
+// Each byte in hexadecimal, of as many digits, behind the text `before`.
+fn say_each(before: &[u8], bytes: &[u8], digits: usize) {
     let mut i: usize = 0;
     while i < bytes.len() {
-        say(b" ");
-        io::print_hex(STDOUT_FILENO, wide(bytes[i]), 2);
+        say(before);
+        io::print_hex(STDOUT_FILENO, wide(bytes[i]), digits);
         i += 1;
     }
+}
+
+// The bytes of a sheet.
+pub fn say_bytes(bytes: &[u8]) {
+    say_each(b" ", bytes, 2);
 }
 
 pub fn say_listing(sheet: &[u8]) {
@@ -41,14 +46,6 @@ pub fn say_listing(sheet: &[u8]) {
     let text = listing.bytes;
     let k = listing.len;
     say(&text[..k]);
-}
-
-fn say_digits(bits: &[u8]) {
-    let mut i: usize = 0;
-    while i < bits.len() {
-        say_number(wide(bits[i]));
-        i += 1;
-    }
 }
 
 // The next n bits, from index `from` on, as a group; answers where the bits after it begin.
@@ -59,24 +56,10 @@ fn say_group(bits: &[u8], from: usize, n: usize) -> usize
     if n <= bits.len() - from {
         let to = from + n;
         say(b" ");
-        say_digits(&bits[from..to]);
+        say_each(b"", &bits[from..to], 1);
         return to;
     }
     from
-}
-
-// A group for each channel. Channels past I have no bits.
-pub fn say_contents(fields: Sheet, contents: &[u8]) {
-    let e = fields.e;
-    let mut from: usize = 0;
-    let mut i: usize = 0;
-    while i < CHANNELS {
-        let n = count(e[i]);
-        if n > 0 {
-            from = say_group(contents, from, n);
-        }
-        i += 1;
-    }
 }
 
 // Where the capacity at an index of the sheet's capacities stands.
@@ -86,22 +69,6 @@ fn say_where(m: usize) {
     say(b" PhCH ");
     say_number((m % CODES + 1) as u64);
     say(b":");
-}
-
-// A line for each physical channel. Those past P and the slots past T have no capacity.
-pub fn say_frame(fields: Sheet, frame: &[u8]) {
-    let caps = fields.caps;
-    let mut from: usize = 0;
-    let mut m: usize = 0;
-    while m < CAPACITIES {
-        let n = count(caps[m]);
-        if n > 0 {
-            say_where(m);
-            from = say_group(frame, from, n);
-            say(b"\n");
-        }
-        m += 1;
-    }
 }
 
 // A name as the legend says.
@@ -122,8 +89,12 @@ fn say_name(sheet: &[u8], name: PlaceName) {
     }
 }
 
-// The names of the n places of a physical channel.
-fn say_places(sheet: &[u8], number: FrameNumber, slot: u32, phch: PhchNumber, n: u16) {
+// The names of the n places of the physical channel at an index of the sheet's capacities.
+fn say_places(sheet: &[u8], number: FrameNumber, m: usize, n: u16)
+    requires { ⌜ m < mostCapacities ⌝ }
+{
+    let slot = (m / CODES + 1) as u32;
+    let phch = PhchNumber((m % CODES + 1) as u32);
     let mut place: u32 = 1;
     while place <= n as u32 {
         let answer = name(sheet, number, slot, phch, place);
@@ -135,20 +106,66 @@ fn say_places(sheet: &[u8], number: FrameNumber, slot: u32, phch: PhchNumber, n:
     }
 }
 
-pub fn say_names(sheet: &[u8], number: FrameNumber, fields: Sheet) {
-    let caps = fields.caps;
-    let mut m: usize = 0;
-    while m < CAPACITIES {
-        let n = caps[m];
-        if n > 0 {
+// What is said of a count of a sheet: the bits of a channel's contents, or of a physical channel, or the names of its places.
+enum Row {
+    Contents,
+    Bits,
+    Names,
+}
+
+// The row at an index of the counts, which has n bits, from index `from` on; answers where the bits after it begin.
+fn say_row(
+    row: Row,
+    sheet: &[u8],
+    number: FrameNumber,
+    bits: &[u8],
+    from: usize,
+    m: usize,
+    n: u16,
+) -> usize
+    requires { ⌜ (from ≤ length (now bits)) × (m < mostCapacities) ⌝ }
+    ensures { λ r. ⌜ r ≤ length (now (bits .entry)) ⌝ }
+{
+    match row {
+        Row::Contents => say_group(bits, from, count(n)),
+        Row::Bits => {
             say_where(m);
-            let slot = (m / CODES + 1) as u32;
-            let phch = PhchNumber((m % CODES + 1) as u32);
-            say_places(sheet, number, slot, phch, n);
+            let to = say_group(bits, from, count(n));
             say(b"\n");
+            to
+        }
+        Row::Names => {
+            say_where(m);
+            say_places(sheet, number, m, n);
+            say(b"\n");
+            from
+        }
+    }
+}
+
+// A row for each count above 0: what is past I, T or P has none.
+fn say_rows(row: Row, sheet: &[u8], number: FrameNumber, counts: &[u16], bits: &[u8])
+    requires { ⌜ length (now counts) ≤ mostCapacities ⌝ }
+{
+    let mut from: usize = 0;
+    let mut m: usize = 0;
+    while m < counts.len() {
+        let n = counts[m];
+        if n > 0 {
+            from = say_row(row, sheet, number, bits, from, m, n);
         }
         m += 1;
     }
+}
+
+pub fn say_contents(sheet: &[u8], number: FrameNumber, e: [u16; CHANNELS], contents: &[u8]) {
+    say_rows(Row::Contents, sheet, number, &e, contents);
+}
+
+pub fn say_frame(sheet: &[u8], number: FrameNumber, caps: [u16; CAPACITIES], frame: &[u8]) {
+    say_rows(Row::Bits, sheet, number, &caps, frame);
+    say(b"the name of each place:\n");
+    say_rows(Row::Names, sheet, number, &caps, frame);
 }
 
 pub fn say_refused(number: u32) {

@@ -1,13 +1,13 @@
-use Prim.Native.Nat.{_+_, _*_, _≤_, _-_}
+use Prim.Native.Nat.{_≤_, _-_}
 use borrow.Author.Needs.{needs}
 use Rattle.drawing.proofs.frame.say_starts.Statement.{statement}
 use Rattle.drawing.proofs.frame.say_starts.Tie as tie
 
 abbrev Inv-loop : tie.InvT-loop
-Inv-loop out₀ at scale y n rows k₀ row₀ place₀ t12 out k row place = (row ≤ rows) × (place ≤ 1 + 250 * row)
+Inv-loop out₀ at scale y n rows k₀ row₀ t11 out k row = row ≤ rows
 
 abbrev μ-loop : tie.MeasureT-loop
-μ-loop out₀ at scale y n rows k₀ row₀ place₀ t12 out k row place = rows - row
+μ-loop out₀ at scale y n rows k₀ row₀ t11 out k row = rows - row
 
 lines-requires : tie.Need-lines-requires Inv-loop μ-loop
 lines-requires c κs = search needs
@@ -30,6 +30,9 @@ add-open-text c = search needs
 open-text-requires : tie.Need-open-text-requires Inv-loop μ-loop
 open-text-requires c κs = search needs
 
+start-requires : tie.Need-start-requires Inv-loop μ-loop
+start-requires c κs = search needs
+
 number-requires : tie.Need-number-requires Inv-loop μ-loop
 number-requires c κs = search needs
 
@@ -38,12 +41,6 @@ close-text-requires c κs = search needs
 
 add-row : tie.Need-add-row Inv-loop μ-loop
 add-row c = search needs
-
-line-requires : tie.Need-line-requires Inv-loop μ-loop
-line-requires c κs = search needs
-
-add-place : tie.Need-add-place Inv-loop μ-loop
-add-place c = search needs
 
 loop-less : tie.Need-loop-less Inv-loop μ-loop
 loop-less c = search needs
@@ -67,11 +64,10 @@ say-starts-spec =
     height-requires
     add-open-text
     open-text-requires
+    start-requires
     number-requires
     close-text-requires
     add-row
-    line-requires
-    add-place
     loop-less
     loop-again
     returns)

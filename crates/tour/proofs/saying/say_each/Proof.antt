@@ -1,17 +1,20 @@
 use Prim.Native.Nat.{_≤_, _-_}
 use lib.ListN.{length}
 use borrow.Author.Needs.{needs}
-use Rattle.tour.proofs.saying.say_digits.Statement.{statement}
-use Rattle.tour.proofs.saying.say_digits.Tie as tie
+use Rattle.tour.proofs.saying.say_each.Statement.{statement}
+use Rattle.tour.proofs.saying.say_each.Tie as tie
 
 abbrev Inv-loop : tie.InvT-loop
-Inv-loop bits i₀ i = i ≤ length bits
+Inv-loop before bytes digits i₀ i = i ≤ length bytes
 
 abbrev μ-loop : tie.MeasureT-loop
-μ-loop bits i₀ i = length bits - i
+μ-loop before bytes digits i₀ i = length bytes - i
 
 loop-holds : tie.Need-loop-holds Inv-loop μ-loop
 loop-holds c = search needs
+
+say-requires : tie.Need-say-requires Inv-loop μ-loop
+say-requires c κs = search needs
 
 shared-slice-read-wide : tie.Need-shared-slice-read-wide Inv-loop μ-loop
 shared-slice-read-wide c = search needs
@@ -19,8 +22,8 @@ shared-slice-read-wide c = search needs
 wide-requires : tie.Need-wide-requires Inv-loop μ-loop
 wide-requires c κs = search needs
 
-say-number-requires : tie.Need-say-number-requires Inv-loop μ-loop
-say-number-requires c κs = search needs
+print-hex-requires : tie.Need-print-hex-requires Inv-loop μ-loop
+print-hex-requires c κs = search needs
 
 add-i : tie.Need-add-i Inv-loop μ-loop
 add-i c = search needs
@@ -34,16 +37,17 @@ loop-again c = search needs
 returns : tie.Need-returns Inv-loop μ-loop
 returns c = search needs
 
-pub say-digits-spec : {M : Type 1} → statement M
-say-digits-spec =
+pub say-each-spec : {M : Type 1} → statement M
+say-each-spec =
     tie.close
     (tie.spec
     Inv-loop
     μ-loop
     loop-holds
+    say-requires
     shared-slice-read-wide
     wide-requires
-    say-number-requires
+    print-hex-requires
     add-i
     loop-less
     loop-again
