@@ -26,7 +26,7 @@ fn wide(x: u8) -> u64 {
     x as u64
 }
 
-// Each byte in hexadecimal, of as many digits, behind the text `before`.
+// Each byte in hexadecimal, of at least so many digits, behind the text `before`.
 fn say_each(before: &[u8], bytes: &[u8], digits: usize) {
     let mut i: usize = 0;
     while i < bytes.len() {
