@@ -3,7 +3,7 @@ use mathlib.Core.Path.{_∙_}
 use Prim.Native.Nat.{_+_, _≤_}
 use lib.ListN.{length, getD}
 use Rattle.opening.proofs.OpenLaws.{cut-rises}
-use Rattle.frame.proofs.SpreadLaws.{part-length}
+use Rattle.laws.proofs.PartLaws.{part-length}
 use Rattle.frame.proofs.SendLaws.{cut-share, cut-within}
 use Rattle.homing.proofs.TakeLaws.{part-at}
 use borrow.Author.Needs.{needs}
