@@ -16,7 +16,6 @@ use Rattle.laws.proofs.SumLaws.{sum-more, sum-within}
 use Rattle.laws.proofs.PartLaws.{part-length}
 use Rattle.laws.proofs.LaidLaws.{laid-none, laid-joined, laid-long, laid-all}
 use Rattle.laws.proofs.RowLaws.{rows-part, rows-same, one-row}
-use Rattle.sheet.specs.Counts.{mostSlots, mostCodes, mostBits}
 use Rattle.sheet.specs.Fields.{phchsOf}
 use Rattle.sheet.specs.Sizes.{slotCapacity, placesAll, subframesOf, capacityAll}
 use Rattle.sheet.specs.Range.{Accepted}
@@ -26,9 +25,8 @@ use Rattle.interleaving.specs.Second.{secondInterleaved}
 use Rattle.interleaving.proofs.SecondLaws.{second-length}
 use Rattle.mapping.specs.Mapping.{at, ones, slotSize, slotOf, Slot}
 use Rattle.mapping.proofs.MappedLaws.{mapped-length, mapped-over}
-use Rattle.opening.proofs.OpenLaws.{capacity-most}
 use Rattle.frame.specs.Frame.{capsOf, runsOf, slotStart, slotPart, slotShare, sharePart, inSlots, slotBits, slotMapped, interleavedSlots, interleavedBits, mappedSlots, spread}
-use Rattle.frame.specs.Slots.{Spans, Slotwise}
+use Rattle.frame.specs.Slots.{Spanned, Spans, Slotwise}
 use Rattle.frame.specs.declared.spreading.Span.{Span}
 use Rattle.frame.proofs.FrameLaws.{runs-ones, caps-size, length-share, length-share-made}
 
@@ -41,28 +39,27 @@ slots-start sh made o = record { some = omega arith; begins = refl; long = refl;
 
 module _ {A : Type 0} {sh : Sheet} {made : ℕ → List A} {o out : List A} {t a : ℕ} (h : Slotwise sh made o out t a) where
   -- what is asked of a slot's span
-  pub span-asks : Accepted sh → t < sh .slots → (t < mostSlots) × (phchsOf sh t ≤ mostCodes) × (a ≤ mostBits)
-  span-asks ok l = (
-    omega (arith, ok .ranged .fifteen),
-    ok .ranged .phch16 t l,
-    omega (arith, h .begins, sum-within (slotCapacity sh) t (sh .slots) l, capacity-one sh, capacity-most sh ok),
-  )
+  pub span-asks : {n : ℕ} → Accepted sh × (n ≡ capacityAll sh) × (length o ≡ capacityAll sh) → t < sh .slots
+      → Spanned (sh .phchs) (sh .caps) t a (length out)
+  span-asks ask l =
+      record {
+        slot = omega (arith, ask .0 .ranged .fifteen);
+        codes = ask .0 .ranged .phch16 t l;
+        room = omega (arith, ask .2, h .begins, h .long, sum-within (slotCapacity sh) t (sh .slots) l, capacity-one sh);
+      }
 
   -- one slot more
-  module _ (l : t < sh .slots) {s : Span} (p : Spans (sh .phchs) (sh .caps) t a s) where
-    pub span-ends : (a ≤ s .end) × (s .end ≤ capacityAll sh)
-    span-ends = omega (arith, p .end, h .begins, sum-within (slotCapacity sh) t (sh .slots) l, capacity-one sh)
-
-    pub slots-turn : length o ≡ capacityAll sh → {y : List A} → (length y ≡ s .end - a) × (y ≡ made t)
-        → Slotwise sh made o (putMid a (s .end - a) out y) (t + 1) (s .end)
-    slots-turn full {y} y-is =
-        let d = laid-joined made o out a (s .end) t (h .laid) (span-ends .0) (y-is .0) (y-is .1) in
-        record {
-          some = omega arith;
-          begins = p .end ∙ sum-more (slotCapacity sh) t (h .begins) refl;
-          long = laid-long o _ (s .end) _ d (omega (arith, span-ends .1));
-          laid = d;
-        }
+  pub slots-turn : {s : Span} → Spans (sh .phchs) (sh .caps) t a (length out) s → t < sh .slots → {y : List A}
+      → (length y ≡ s .end - a) × (y ≡ made t) → Slotwise sh made o (putMid a (s .end - a) out y) (s .next) (s .end)
+  slots-turn {s} p l {y} y-is =
+      let d = laid-joined made o out a (s .end) t (h .laid) (omega (arith, p .end)) (y-is .0) (y-is .1) in
+      rw (p .next)
+      (record {
+        some = omega arith;
+        begins = p .end ∙ sum-more (slotCapacity sh) t (h .begins) refl;
+        long = laid-long o _ (s .end) _ d (omega (arith, p .within, h .long));
+        laid = d;
+      })
 
   -- after the last one
   pub slots-end : sh .slots ≤ t → length o ≡ capacityAll sh → out ≡ joined made (sh .slots)
@@ -72,7 +69,7 @@ module _ {A : Type 0} {sh : Sheet} {made : ℕ → List A} {o out : List A} {t a
 
 -- ---- a slot as the code lends it, the frame having one sub-frame
 
-module _ (sh : Sheet) (t : ℕ) {a : ℕ} (ea : a ≡ slotStart sh t) {s : Span} (p : Spans (sh .phchs) (sh .caps) t a s) where
+module _ (sh : Sheet) (t : ℕ) {a : ℕ} (ea : a ≡ slotStart sh t) {most : ℕ} {s : Span} (p : Spans (sh .phchs) (sh .caps) t a most s) where
   span-size : s .end - a ≡ slotCapacity sh t
   span-size = omega (arith, p .end)
 

@@ -1,12 +1,10 @@
 // Steps 8 and 9: the multiplexed bits interleaved, and mapped slot after slot.
 ghost use mathlib.Core.Path.{_≡_};
-ghost use Prim.Native.Nat.{_≤_, _<_};
-ghost use lib.ListN.{length, getD};
-ghost use Rattle.sheet.specs.Counts.{mostSlots, mostCodes, mostBits};
+ghost use lib.ListN.{length};
 ghost use Rattle.sheet.specs.Sizes.{capacityAll};
 ghost use Rattle.sheet.specs.Range.{Accepted};
 ghost use Rattle.frame.specs.Frame.{interleavedSlots, interleavedBits, mappedSlots, spread};
-ghost use Rattle.frame.specs.Slots.{Spans};
+ghost use Rattle.frame.specs.Slots.{Spanned, Spans};
 use sheet::Sheet;
 use sheet::count;
 use sheet::counts::CAPACITIES;
@@ -14,25 +12,36 @@ use sheet::counts::CODES;
 use sheet::counts::SLOTS;
 use sheet::sizes::slot_load;
 
-// Slot t: its capacities stand from `from` up to `to` in the array of all, and its part of the frame ends at `end`.
+// A slot: its capacities stand from `from` up to `to` in the array of all, its part of the frame ends at `end`; and the slot after it.
 pub struct Span {
     pub from: usize,
     pub to: usize,
     pub end: usize,
+    pub next: usize,
 }
 
-// Of slot t, whose part begins at a.
-pub fn span_of<'a>(phchs: &'a [u16; SLOTS], caps: &'a [u16; CAPACITIES], t: usize, a: usize) -> Span
-    requires { ⌜ (t < mostSlots) × (getD (now phchs) t 0 ≤ mostCodes) × (a ≤ mostBits) ⌝ }
-    ensures { λ r. ⌜ Spans (now (phchs .entry)) (now (caps .entry)) t a r ⌝ }
+// Of slot t, whose part begins at a and ends at `most` or before.
+pub fn span_of<'a>(
+    phchs: &'a [u16; SLOTS],
+    caps: &'a [u16; CAPACITIES],
+    t: usize,
+    a: usize,
+    most: usize,
+) -> Span
+    requires { ⌜ Spanned (now phchs) (now caps) t a most ⌝ }
+    ensures { λ r. ⌜ Spans (now (phchs .entry)) (now (caps .entry)) t a most r ⌝ }
 {
     let from = CODES * t;
     let n = count(phchs[t]);
     let one = slot_load(caps, from, n);
+    let to = from + n;
+    let end = a + one.sum as usize;
+    let next = t + 1;
     Span {
-        from: from,
-        to: from + n,
-        end: a + one.sum as usize,
+        from,
+        to,
+        end,
+        next,
     }
 }
 
@@ -46,11 +55,11 @@ fn interleave_slots(bits: &[u8], fields: Sheet, out: &mut [u8])
     let mut t: usize = 0;
     let mut a: usize = 0;
     while t < count(fields.slots) {
-        let s = span_of(&phchs, &caps, t, a);
+        let s = span_of(&phchs, &caps, t, a, out.len());
         let e = s.end;
         interleaving::second::interleave(&bits[a..e], &mut out[a..e]);
         a = e;
-        t += 1;
+        t = s.next;
     }
 }
 
@@ -64,13 +73,13 @@ fn map_slots(bits: &[u8], fields: Sheet, out: &mut [u8])
     let mut t: usize = 0;
     let mut a: usize = 0;
     while t < count(fields.slots) {
-        let s = span_of(&phchs, &caps, t, a);
+        let s = span_of(&phchs, &caps, t, a, out.len());
         let from = s.from;
         let to = s.to;
         let e = s.end;
         mapping::map_slot(&bits[a..e], &caps[from..to], &mut out[a..e]);
         a = e;
-        t += 1;
+        t = s.next;
     }
 }
 

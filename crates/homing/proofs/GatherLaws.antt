@@ -34,7 +34,7 @@ length-taken z sh ok t p l = unmapped-length (at (capsOf sh t)) (runsOf sh t) (l
 
 -- ---- what the code does, the frame having one sub-frame
 
-module _ {A : Type 0} (z : A) (sh : Sheet) (t : ℕ) {a : ℕ} (ea : a ≡ slotStart sh t) {s : Span} (p : Spans (sh .phchs) (sh .caps) t a s) (l : t < sh .slots)
+module _ {A : Type 0} (z : A) (sh : Sheet) (t : ℕ) {a : ℕ} (ea : a ≡ slotStart sh t) {most : ℕ} {s : Span} (p : Spans (sh .phchs) (sh .caps) t a most s) (l : t < sh .slots)
     (xs : List A) (full : length xs ≡ capacityAll sh) where
   -- step 9 undone of a slot, by the capacities and the part as the code lends them
   pub slot-taken : Accepted sh → {y : List A} → y ≡ slotUndone ones (take (s .to - s .from) (drop (s .from) (sh .caps))) z (take (s .end - a) (drop a xs))

@@ -19,13 +19,13 @@ fn unmap_slots(frame: &[f32], fields: Sheet, out: &mut [f32])
     let mut t: usize = 0;
     let mut a: usize = 0;
     while t < count(fields.slots) {
-        let s = span_of(&phchs, &caps, t, a);
+        let s = span_of(&phchs, &caps, t, a, out.len());
         let from = s.from;
         let to = s.to;
         let e = s.end;
         mapping::unmap_slot(&frame[a..e], &caps[from..to], &mut out[a..e]);
         a = e;
-        t += 1;
+        t = s.next;
     }
 }
 
@@ -39,11 +39,11 @@ fn undo_slots(values: &[f32], fields: Sheet, out: &mut [f32])
     let mut t: usize = 0;
     let mut a: usize = 0;
     while t < count(fields.slots) {
-        let s = span_of(&phchs, &caps, t, a);
+        let s = span_of(&phchs, &caps, t, a, out.len());
         let e = s.end;
         interleaving::second::deinterleave(&values[a..e], &mut out[a..e]);
         a = e;
-        t += 1;
+        t = s.next;
     }
 }
 

@@ -1,14 +1,13 @@
 use borrow.Author.Needs.{needs}
 use native.Mathlib.Omega.{arith}
 use mathlib.Core.Path.{sym, ap, _∙_}
-use Prim.Native.Nat.{_-_, _≤_}
+use Prim.Native.Nat.{_-_}
 use lib.ListN.{length}
 use Rattle.interleaving.specs.Second.{secondInterleaved}
 use Rattle.interleaving.proofs.SecondLaws.{second-length}
-use Rattle.sheet.specs.Sizes.{capacityAll}
 use Rattle.frame.specs.Frame.{slotShare, sharePart, interleavedSlots}
 use Rattle.frame.specs.Slots.{Slotwise}
-use Rattle.frame.proofs.SpreadLaws.{slots-start, span-asks, span-ends, slots-turn, slots-end, lent-long, share-made, one-frame}
+use Rattle.frame.proofs.SpreadLaws.{slots-start, span-asks, slots-turn, slots-end, lent-long, share-made, one-frame}
 use Rattle.frame.proofs.spreading.interleave_slots.Statement.{statement}
 use Rattle.frame.proofs.spreading.interleave_slots.Tie as tie
 
@@ -19,10 +18,6 @@ Inv-loop bits fields out₀ phchs caps t₀ a₀ out t a =
 abbrev μ-loop : tie.MeasureT-loop
 μ-loop bits fields out₀ phchs caps t₀ a₀ out t a = fields .slots - t
 
--- the slot's part lies within the frame
-room : (c : tie.After-span-of Inv-loop μ-loop) → (c .before .before .before .before .before .loop .a ≤ c .span-of .result .end) × (c .span-of .result .end ≤ capacityAll (c .before .before .before .before .before .before .before .before .before .before .args .fields))
-room c = span-ends (c .before .before .before .before .before .loop .inv) (omega arith) (c .span-of .ensures)
-
 loop-holds : tie.Need-loop-holds Inv-loop μ-loop
 loop-holds c = slots-start _ _ _
 
@@ -30,25 +25,25 @@ count-requires : tie.Need-count-requires Inv-loop μ-loop
 count-requires c κs = search needs
 
 span-of-requires : tie.Need-span-of-requires Inv-loop μ-loop
-span-of-requires c κs = span-asks (c .before .before .before .before .loop .inv) (c .before .before .before .before .before .before .before .before .before .pre .0) (omega arith)
+span-of-requires c κs = span-asks (c .before .before .before .before .loop .inv) (c .before .before .before .before .before .before .before .before .before .pre) (omega arith)
 
 sub-interleave : tie.Need-sub-interleave Inv-loop μ-loop
-sub-interleave c = omega (arith, room c)
+sub-interleave c = omega arith
 
 part-interleave-start : tie.Need-part-interleave-start Inv-loop μ-loop
-part-interleave-start c = omega (arith, room c)
+part-interleave-start c = omega arith
 
 part-interleave-end : tie.Need-part-interleave-end Inv-loop μ-loop
-part-interleave-end c = omega (arith, room c)
+part-interleave-end c = omega arith
 
 sub-interleave-2 : tie.Need-sub-interleave-2 Inv-loop μ-loop
-sub-interleave-2 c = omega (arith, room (c .before))
+sub-interleave-2 c = omega (arith, c .before .span-of .ensures .end, c .before .span-of .ensures .within)
 
 part-interleave-start-2 : tie.Need-part-interleave-start-2 Inv-loop μ-loop
-part-interleave-start-2 c = omega (arith, room (c .before))
+part-interleave-start-2 c = omega (arith, c .before .span-of .ensures .end, c .before .span-of .ensures .within)
 
 part-interleave-end-2 : tie.Need-part-interleave-end-2 Inv-loop μ-loop
-part-interleave-end-2 c = omega (arith, room (c .before), c .before .before .before .before .before .before .loop .inv .long)
+part-interleave-end-2 c = omega (arith, c .before .span-of .ensures .end, c .before .span-of .ensures .within)
 
 interleave-requires : tie.Need-interleave-requires Inv-loop μ-loop
 interleave-requires c κs =
@@ -58,9 +53,6 @@ interleave-requires c κs =
     let p = k .span-of .ensures in
     lent-long (s .args .fields) (l .t) (l .inv .begins) p (l .out) (omega arith) (l .inv .long ∙ s .pre .2)
     ∙ sym (lent-long (s .args .fields) (l .t) (l .inv .begins) p (s .args .bits .now) (omega arith) (s .pre .1))
-
-add-t : tie.Need-add-t Inv-loop μ-loop
-add-t c = omega arith
 
 loop-less : tie.Need-loop-less Inv-loop μ-loop
 loop-less c = omega arith
@@ -73,7 +65,7 @@ loop-again c =
     let s = k .before .before .before .before .before .before .before .before .before .before in
     let p = k .span-of .ensures in
     let y = i .interleave .ensures in
-    slots-turn (l .inv) (omega arith) p (s .pre .2) (
+    slots-turn (l .inv) p (omega arith) (
       ap length y ∙ second-length _ ∙ lent-long (s .args .fields) (l .t) (l .inv .begins) p (s .args .bits .now) (omega arith) (s .pre .1),
       y ∙ share-made (s .args .fields) (l .t) (l .inv .begins) p (s .args .bits .now) (omega arith) (s .pre .1),
     )
@@ -90,21 +82,4 @@ returns c =
 pub interleave-slots-spec : {M : Type 1} → statement M
 interleave-slots-spec =
     tie.close
-    (tie.spec
-    Inv-loop
-    μ-loop
-    loop-holds
-    count-requires
-    span-of-requires
-    sub-interleave
-    part-interleave-start
-    part-interleave-end
-    sub-interleave-2
-    part-interleave-start-2
-    part-interleave-end-2
-    interleave-requires
-    add-t
-    loop-less
-    loop-again
-    same-length
-    returns)
+    (tie.spec Inv-loop μ-loop loop-holds count-requires span-of-requires sub-interleave part-interleave-start part-interleave-end sub-interleave-2 part-interleave-start-2 part-interleave-end-2 interleave-requires loop-less loop-again same-length returns)

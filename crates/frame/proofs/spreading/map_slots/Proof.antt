@@ -1,11 +1,10 @@
 use borrow.Author.Needs.{needs}
 use native.Mathlib.Omega.{arith}
 use mathlib.Core.Path.{_∙_}
-use Prim.Native.Nat.{_-_, _≤_}
-use Rattle.sheet.specs.Sizes.{capacityAll}
+use Prim.Native.Nat.{_-_}
 use Rattle.frame.specs.Frame.{slotPart, slotMapped, mappedSlots}
 use Rattle.frame.specs.Slots.{Slotwise}
-use Rattle.frame.proofs.SpreadLaws.{slots-start, span-asks, span-ends, slots-turn, slots-end, slot-fits, slot-made, one-frame}
+use Rattle.frame.proofs.SpreadLaws.{slots-start, span-asks, slots-turn, slots-end, slot-fits, slot-made, one-frame}
 use Rattle.frame.proofs.spreading.map_slots.Statement.{statement}
 use Rattle.frame.proofs.spreading.map_slots.Tie as tie
 
@@ -15,10 +14,6 @@ Inv-loop bits fields out₀ phchs caps t₀ a₀ out t a = Slotwise fields (λ k
 abbrev μ-loop : tie.MeasureT-loop
 μ-loop bits fields out₀ phchs caps t₀ a₀ out t a = fields .slots - t
 
--- the slot's part lies within the frame
-room : (c : tie.After-span-of Inv-loop μ-loop) → (c .before .before .before .before .before .loop .a ≤ c .span-of .result .end) × (c .span-of .result .end ≤ capacityAll (c .before .before .before .before .before .before .before .before .before .before .args .fields))
-room c = span-ends (c .before .before .before .before .before .loop .inv) (omega arith) (c .span-of .ensures)
-
 loop-holds : tie.Need-loop-holds Inv-loop μ-loop
 loop-holds c = slots-start _ _ _
 
@@ -26,16 +21,16 @@ count-requires : tie.Need-count-requires Inv-loop μ-loop
 count-requires c κs = search needs
 
 span-of-requires : tie.Need-span-of-requires Inv-loop μ-loop
-span-of-requires c κs = span-asks (c .before .before .before .before .loop .inv) (c .before .before .before .before .before .before .before .before .before .pre .0) (omega arith)
+span-of-requires c κs = span-asks (c .before .before .before .before .loop .inv) (c .before .before .before .before .before .before .before .before .before .pre) (omega arith)
 
 sub-map-slot : tie.Need-sub-map-slot Inv-loop μ-loop
-sub-map-slot c = omega (arith, room c)
+sub-map-slot c = omega arith
 
 part-map-slot-start : tie.Need-part-map-slot-start Inv-loop μ-loop
-part-map-slot-start c = omega (arith, room c)
+part-map-slot-start c = omega arith
 
 part-map-slot-end : tie.Need-part-map-slot-end Inv-loop μ-loop
-part-map-slot-end c = omega (arith, room c)
+part-map-slot-end c = omega arith
 
 mul-map-slot : tie.Need-mul-map-slot Inv-loop μ-loop
 mul-map-slot c = omega (arith, c .before .span-of .ensures .from, c .before .span-of .ensures .to, c .before .span-of .ensures .few)
@@ -50,13 +45,13 @@ part-map-slot-end-2 : tie.Need-part-map-slot-end-2 Inv-loop μ-loop
 part-map-slot-end-2 c = omega (arith, c .before .before .span-of .ensures .few)
 
 sub-map-slot-3 : tie.Need-sub-map-slot-3 Inv-loop μ-loop
-sub-map-slot-3 c = omega (arith, room (c .before .before .before))
+sub-map-slot-3 c = omega (arith, c .before .before .before .span-of .ensures .end, c .before .before .before .span-of .ensures .within)
 
 part-map-slot-start-3 : tie.Need-part-map-slot-start-3 Inv-loop μ-loop
-part-map-slot-start-3 c = omega (arith, room (c .before .before .before))
+part-map-slot-start-3 c = omega (arith, c .before .before .before .span-of .ensures .end, c .before .before .before .span-of .ensures .within)
 
 part-map-slot-end-3 : tie.Need-part-map-slot-end-3 Inv-loop μ-loop
-part-map-slot-end-3 c = omega (arith, room (c .before .before .before), c .before .before .before .before .before .before .before .before .loop .inv .long)
+part-map-slot-end-3 c = omega (arith, c .before .before .before .span-of .ensures .end, c .before .before .before .span-of .ensures .within)
 
 map-slot-requires : tie.Need-map-slot-requires Inv-loop μ-loop
 map-slot-requires c κs =
@@ -64,9 +59,6 @@ map-slot-requires c κs =
     let l = k .before .before .before .before .before .loop in
     let s = k .before .before .before .before .before .before .before .before .before .before in
     slot-fits (s .args .fields) (l .t) (l .inv .begins) (k .span-of .ensures) (s .pre .0) (omega arith) (s .args .bits .now) (l .out) (s .pre .1) (l .inv .long ∙ s .pre .2)
-
-add-t : tie.Need-add-t Inv-loop μ-loop
-add-t c = omega arith
 
 loop-less : tie.Need-loop-less Inv-loop μ-loop
 loop-less c = omega arith
@@ -78,7 +70,7 @@ loop-again c =
     let l = k .before .before .before .before .before .loop in
     let s = k .before .before .before .before .before .before .before .before .before .before in
     let p = k .span-of .ensures in
-    slots-turn (l .inv) (omega arith) p (s .pre .2)
+    slots-turn (l .inv) p (omega arith)
     (slot-made (s .args .fields) (l .t) (l .inv .begins) p (s .pre .0) (omega arith) (s .args .bits .now) (l .out) (s .pre .1) (l .inv .long ∙ s .pre .2) (i .map-slot .ensures))
 
 same-length : tie.Need-same-length Inv-loop μ-loop
@@ -93,25 +85,4 @@ returns c =
 pub map-slots-spec : {M : Type 1} → statement M
 map-slots-spec =
     tie.close
-    (tie.spec
-    Inv-loop
-    μ-loop
-    loop-holds
-    count-requires
-    span-of-requires
-    sub-map-slot
-    part-map-slot-start
-    part-map-slot-end
-    mul-map-slot
-    sub-map-slot-2
-    part-map-slot-start-2
-    part-map-slot-end-2
-    sub-map-slot-3
-    part-map-slot-start-3
-    part-map-slot-end-3
-    map-slot-requires
-    add-t
-    loop-less
-    loop-again
-    same-length
-    returns)
+    (tie.spec Inv-loop μ-loop loop-holds count-requires span-of-requires sub-map-slot part-map-slot-start part-map-slot-end mul-map-slot sub-map-slot-2 part-map-slot-start-2 part-map-slot-end-2 sub-map-slot-3 part-map-slot-start-3 part-map-slot-end-3 map-slot-requires loop-less loop-again same-length returns)

@@ -1,14 +1,14 @@
 use borrow.Author.Needs.{needs}
 use native.Mathlib.Omega.{arith}
 use mathlib.Core.Path.{sym, _∙_}
-use Prim.Native.Nat.{_-_, _≤_}
+use Prim.Native.Nat.{_-_}
 use lib.Ieee.{nan}
 use Rattle.laws.specs.Joined.{joined}
 use Rattle.interleaving.specs.Second.{secondUndone}
-use Rattle.sheet.specs.Sizes.{subframesOf, capacityAll}
+use Rattle.sheet.specs.Sizes.{subframesOf}
 use Rattle.frame.specs.Frame.{slotPart}
 use Rattle.frame.specs.Slots.{Slotwise}
-use Rattle.frame.proofs.SpreadLaws.{slots-start, span-asks, span-ends, slots-turn, slots-end, lent-long}
+use Rattle.frame.proofs.SpreadLaws.{slots-start, span-asks, slots-turn, slots-end, lent-long}
 use Rattle.homing.specs.Gather.{undoneSlots}
 use Rattle.homing.proofs.GatherLaws.{share-taken}
 use Rattle.homing.proofs.gathering.undo_slots.Statement.{statement}
@@ -21,10 +21,6 @@ Inv-loop values fields out₀ phchs caps t₀ a₀ out t a =
 abbrev μ-loop : tie.MeasureT-loop
 μ-loop values fields out₀ phchs caps t₀ a₀ out t a = fields .slots - t
 
--- the slot's part lies within the frame
-room : (c : tie.After-span-of Inv-loop μ-loop) → (c .before .before .before .before .before .loop .a ≤ c .span-of .result .end) × (c .span-of .result .end ≤ capacityAll (c .before .before .before .before .before .before .before .before .before .before .args .fields))
-room c = span-ends (c .before .before .before .before .before .loop .inv) (omega arith) (c .span-of .ensures)
-
 loop-holds : tie.Need-loop-holds Inv-loop μ-loop
 loop-holds c = slots-start _ _ _
 
@@ -32,31 +28,31 @@ count-requires : tie.Need-count-requires Inv-loop μ-loop
 count-requires c κs = search needs
 
 span-of-requires : tie.Need-span-of-requires Inv-loop μ-loop
-span-of-requires c κs = span-asks (c .before .before .before .before .loop .inv) (c .before .before .before .before .before .before .before .before .before .pre .0) (omega arith)
+span-of-requires c κs = span-asks (c .before .before .before .before .loop .inv) (c .before .before .before .before .before .before .before .before .before .pre) (omega arith)
 
 mul-deinterleave : tie.Need-mul-deinterleave Inv-loop μ-loop
-mul-deinterleave c = omega (arith, room c)
+mul-deinterleave c = omega arith
 
 sub-deinterleave : tie.Need-sub-deinterleave Inv-loop μ-loop
-sub-deinterleave c = omega (arith, room c)
+sub-deinterleave c = omega arith
 
 part-deinterleave-start : tie.Need-part-deinterleave-start Inv-loop μ-loop
-part-deinterleave-start c = omega (arith, room c)
+part-deinterleave-start c = omega arith
 
 part-deinterleave-end : tie.Need-part-deinterleave-end Inv-loop μ-loop
-part-deinterleave-end c = omega (arith, room c)
+part-deinterleave-end c = omega arith
 
 mul-deinterleave-2 : tie.Need-mul-deinterleave-2 Inv-loop μ-loop
-mul-deinterleave-2 c = omega (arith, room (c .before))
+mul-deinterleave-2 c = omega (arith, c .before .span-of .ensures .end, c .before .span-of .ensures .within)
 
 sub-deinterleave-2 : tie.Need-sub-deinterleave-2 Inv-loop μ-loop
-sub-deinterleave-2 c = omega (arith, room (c .before))
+sub-deinterleave-2 c = omega (arith, c .before .span-of .ensures .end, c .before .span-of .ensures .within)
 
 part-deinterleave-start-2 : tie.Need-part-deinterleave-start-2 Inv-loop μ-loop
-part-deinterleave-start-2 c = omega (arith, room (c .before))
+part-deinterleave-start-2 c = omega (arith, c .before .span-of .ensures .end, c .before .span-of .ensures .within)
 
 part-deinterleave-end-2 : tie.Need-part-deinterleave-end-2 Inv-loop μ-loop
-part-deinterleave-end-2 c = omega (arith, room (c .before), c .before .before .before .before .before .before .loop .inv .long)
+part-deinterleave-end-2 c = omega (arith, c .before .span-of .ensures .end, c .before .span-of .ensures .within)
 
 deinterleave-requires : tie.Need-deinterleave-requires Inv-loop μ-loop
 deinterleave-requires c κs =
@@ -66,9 +62,6 @@ deinterleave-requires c κs =
     let p = k .span-of .ensures in
     lent-long (s .args .fields) (l .t) (l .inv .begins) p (l .out) (omega arith) (l .inv .long ∙ s .pre .2)
     ∙ sym (lent-long (s .args .fields) (l .t) (l .inv .begins) p (s .args .values .now) (omega arith) (s .pre .1))
-
-add-t : tie.Need-add-t Inv-loop μ-loop
-add-t c = omega arith
 
 loop-less : tie.Need-loop-less Inv-loop μ-loop
 loop-less c = omega arith
@@ -80,7 +73,7 @@ loop-again c =
     let l = k .before .before .before .before .before .loop in
     let s = k .before .before .before .before .before .before .before .before .before .before in
     let p = k .span-of .ensures in
-    slots-turn (l .inv) (omega arith) p (s .pre .2)
+    slots-turn (l .inv) p (omega arith)
     (share-taken nan (s .args .fields) (l .t) (l .inv .begins) p (omega arith) (s .args .values .now) (s .pre .1) (i .deinterleave .ensures))
 
 same-length : tie.Need-same-length Inv-loop μ-loop
@@ -95,23 +88,4 @@ returns c =
 pub undo-slots-spec : {M : Type 1} → statement M
 undo-slots-spec =
     tie.close
-    (tie.spec
-    Inv-loop
-    μ-loop
-    loop-holds
-    count-requires
-    span-of-requires
-    mul-deinterleave
-    sub-deinterleave
-    part-deinterleave-start
-    part-deinterleave-end
-    mul-deinterleave-2
-    sub-deinterleave-2
-    part-deinterleave-start-2
-    part-deinterleave-end-2
-    deinterleave-requires
-    add-t
-    loop-less
-    loop-again
-    same-length
-    returns)
+    (tie.spec Inv-loop μ-loop loop-holds count-requires span-of-requires mul-deinterleave sub-deinterleave part-deinterleave-start part-deinterleave-end mul-deinterleave-2 sub-deinterleave-2 part-deinterleave-start-2 part-deinterleave-end-2 deinterleave-requires loop-less loop-again same-length returns)

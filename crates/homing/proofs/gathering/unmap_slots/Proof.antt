@@ -1,12 +1,11 @@
 use borrow.Author.Needs.{needs}
 use native.Mathlib.Omega.{arith}
 use mathlib.Core.Path.{_∙_}
-use Prim.Native.Nat.{_-_, _≤_}
+use Prim.Native.Nat.{_-_}
 use lib.Ieee.{nan}
-use Rattle.sheet.specs.Sizes.{capacityAll}
 use Rattle.frame.specs.Frame.{slotPart}
 use Rattle.frame.specs.Slots.{Slotwise}
-use Rattle.frame.proofs.SpreadLaws.{slots-start, span-asks, span-ends, slots-turn, slots-end, slot-fits, one-frame}
+use Rattle.frame.proofs.SpreadLaws.{slots-start, span-asks, slots-turn, slots-end, slot-fits, one-frame}
 use Rattle.homing.specs.Gather.{slotUnmapped, unmappedSlots}
 use Rattle.homing.proofs.GatherLaws.{slot-taken}
 use Rattle.homing.proofs.gathering.unmap_slots.Statement.{statement}
@@ -18,10 +17,6 @@ Inv-loop frame fields out₀ phchs caps t₀ a₀ out t a = Slotwise fields (λ 
 abbrev μ-loop : tie.MeasureT-loop
 μ-loop frame fields out₀ phchs caps t₀ a₀ out t a = fields .slots - t
 
--- the slot's part lies within the frame
-room : (c : tie.After-span-of Inv-loop μ-loop) → (c .before .before .before .before .before .loop .a ≤ c .span-of .result .end) × (c .span-of .result .end ≤ capacityAll (c .before .before .before .before .before .before .before .before .before .before .args .fields))
-room c = span-ends (c .before .before .before .before .before .loop .inv) (omega arith) (c .span-of .ensures)
-
 loop-holds : tie.Need-loop-holds Inv-loop μ-loop
 loop-holds c = slots-start _ _ _
 
@@ -29,19 +24,19 @@ count-requires : tie.Need-count-requires Inv-loop μ-loop
 count-requires c κs = search needs
 
 span-of-requires : tie.Need-span-of-requires Inv-loop μ-loop
-span-of-requires c κs = span-asks (c .before .before .before .before .loop .inv) (c .before .before .before .before .before .before .before .before .before .pre .0) (omega arith)
+span-of-requires c κs = span-asks (c .before .before .before .before .loop .inv) (c .before .before .before .before .before .before .before .before .before .pre) (omega arith)
 
 mul-unmap-slot : tie.Need-mul-unmap-slot Inv-loop μ-loop
-mul-unmap-slot c = omega (arith, room c)
+mul-unmap-slot c = omega arith
 
 sub-unmap-slot : tie.Need-sub-unmap-slot Inv-loop μ-loop
-sub-unmap-slot c = omega (arith, room c)
+sub-unmap-slot c = omega arith
 
 part-unmap-slot-start : tie.Need-part-unmap-slot-start Inv-loop μ-loop
-part-unmap-slot-start c = omega (arith, room c)
+part-unmap-slot-start c = omega arith
 
 part-unmap-slot-end : tie.Need-part-unmap-slot-end Inv-loop μ-loop
-part-unmap-slot-end c = omega (arith, room c)
+part-unmap-slot-end c = omega arith
 
 mul-unmap-slot-2 : tie.Need-mul-unmap-slot-2 Inv-loop μ-loop
 mul-unmap-slot-2 c = omega (arith, c .before .span-of .ensures .from, c .before .span-of .ensures .to, c .before .span-of .ensures .few)
@@ -56,16 +51,16 @@ part-unmap-slot-end-2 : tie.Need-part-unmap-slot-end-2 Inv-loop μ-loop
 part-unmap-slot-end-2 c = omega (arith, c .before .before .span-of .ensures .few)
 
 mul-unmap-slot-3 : tie.Need-mul-unmap-slot-3 Inv-loop μ-loop
-mul-unmap-slot-3 c = omega (arith, room (c .before .before .before))
+mul-unmap-slot-3 c = omega (arith, c .before .before .before .span-of .ensures .end, c .before .before .before .span-of .ensures .within)
 
 sub-unmap-slot-3 : tie.Need-sub-unmap-slot-3 Inv-loop μ-loop
-sub-unmap-slot-3 c = omega (arith, room (c .before .before .before))
+sub-unmap-slot-3 c = omega (arith, c .before .before .before .span-of .ensures .end, c .before .before .before .span-of .ensures .within)
 
 part-unmap-slot-start-3 : tie.Need-part-unmap-slot-start-3 Inv-loop μ-loop
-part-unmap-slot-start-3 c = omega (arith, room (c .before .before .before))
+part-unmap-slot-start-3 c = omega (arith, c .before .before .before .span-of .ensures .end, c .before .before .before .span-of .ensures .within)
 
 part-unmap-slot-end-3 : tie.Need-part-unmap-slot-end-3 Inv-loop μ-loop
-part-unmap-slot-end-3 c = omega (arith, room (c .before .before .before), c .before .before .before .before .before .before .before .before .loop .inv .long)
+part-unmap-slot-end-3 c = omega (arith, c .before .before .before .span-of .ensures .end, c .before .before .before .span-of .ensures .within)
 
 unmap-slot-requires : tie.Need-unmap-slot-requires Inv-loop μ-loop
 unmap-slot-requires c κs =
@@ -73,9 +68,6 @@ unmap-slot-requires c κs =
     let l = k .before .before .before .before .before .loop in
     let s = k .before .before .before .before .before .before .before .before .before .before in
     slot-fits (s .args .fields) (l .t) (l .inv .begins) (k .span-of .ensures) (s .pre .0) (omega arith) (l .out) (s .args .frame .now) (l .inv .long ∙ s .pre .2) (s .pre .1)
-
-add-t : tie.Need-add-t Inv-loop μ-loop
-add-t c = omega arith
 
 loop-less : tie.Need-loop-less Inv-loop μ-loop
 loop-less c = omega arith
@@ -87,7 +79,7 @@ loop-again c =
     let l = k .before .before .before .before .before .loop in
     let s = k .before .before .before .before .before .before .before .before .before .before in
     let p = k .span-of .ensures in
-    slots-turn (l .inv) (omega arith) p (s .pre .2)
+    slots-turn (l .inv) p (omega arith)
     (slot-taken nan (s .args .fields) (l .t) (l .inv .begins) p (omega arith) (s .args .frame .now) (s .pre .1) (s .pre .0) (i .unmap-slot .ensures))
 
 same-length : tie.Need-same-length Inv-loop μ-loop
@@ -102,27 +94,4 @@ returns c =
 pub unmap-slots-spec : {M : Type 1} → statement M
 unmap-slots-spec =
     tie.close
-    (tie.spec
-    Inv-loop
-    μ-loop
-    loop-holds
-    count-requires
-    span-of-requires
-    mul-unmap-slot
-    sub-unmap-slot
-    part-unmap-slot-start
-    part-unmap-slot-end
-    mul-unmap-slot-2
-    sub-unmap-slot-2
-    part-unmap-slot-start-2
-    part-unmap-slot-end-2
-    mul-unmap-slot-3
-    sub-unmap-slot-3
-    part-unmap-slot-start-3
-    part-unmap-slot-end-3
-    unmap-slot-requires
-    add-t
-    loop-less
-    loop-again
-    same-length
-    returns)
+    (tie.spec Inv-loop μ-loop loop-holds count-requires span-of-requires mul-unmap-slot sub-unmap-slot part-unmap-slot-start part-unmap-slot-end mul-unmap-slot-2 sub-unmap-slot-2 part-unmap-slot-start-2 part-unmap-slot-end-2 mul-unmap-slot-3 sub-unmap-slot-3 part-unmap-slot-start-3 part-unmap-slot-end-3 unmap-slot-requires loop-less loop-again same-length returns)
