@@ -30,12 +30,7 @@ mul-at c = search needs
 array-read-at : tie.Need-array-read-at
 array-read-at c = search needs
 
--- S is far below 2^32
-start-from-requires : tie.Need-start-from-requires
-start-from-requires c κs =
-    let b = c .before .before .before .before .kept .ensures .1 (c .column .result) in
-    (omega arith, omega arith, omega arith, omega arith)
-
+-- before the bound, so that a wrong column is what a check names first
 returns : tie.Need-returns
 returns c =
     let col = c .before in
@@ -51,6 +46,12 @@ returns c =
     let e = c .start-from .ensures ∙ kept-start (a .n) (a .d .size) (a .tti) (a .frame .0) (a .d .less) p (ke .kept .ensures .0 _) in
     let b = start-in (a .n) (signedBy (a .d .less) (a .d .size)) (a .tti) (a .frame .0) (omega arith) in
     (e, omega (arith, e, b .0), omega (arith, e, b .1))
+
+-- S is far below 2^32
+start-from-requires : tie.Need-start-from-requires
+start-from-requires c κs =
+    let b = c .before .before .before .before .kept .ensures .1 (c .column .result) in
+    (omega arith, omega arith, omega arith, omega arith)
 
 pub start-spec : {M : Type 1} → statement M
 start-spec =
