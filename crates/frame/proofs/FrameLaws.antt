@@ -3,7 +3,7 @@ use mathlib.Core.Path.{_≡_, refl, sym, ap, _∙_, subst}
 use mathlib.Core.Bool.{Bool, true, false, cond}
 use mathlib.Core.List.{List, map}
 use Prim.Native.Nat.{ℕ, suc, _+_, _*_, _%_, _≤_, _<_}
-use native.Mathlib.Nat.{mod-lt, suc-mul, mul-add, mul-le-mul-left, mul-le-mul-right}
+use native.Mathlib.Nat.{mod-lt, mul-add, mul-le-mul-left}
 use native.Mathlib.Numerals.{add-one}
 use native.Mathlib.Omega.{arith}
 use lib.Dec.{eqb}
@@ -13,6 +13,7 @@ use Rattle.laws.specs.Sums.{sumTo}
 use Rattle.laws.proofs.SumLaws.{sum-same, sum-within}
 use Rattle.laws.proofs.PartLaws.{take-map, drop-map}
 use Rattle.laws.proofs.JoinedLaws.{Begins, length-joined, map-joined, joined-same}
+use Rattle.laws.proofs.FallLaws.{part-ends}
 use Rattle.laws.proofs.RowLaws.{row-room, length-rows, rows-same, map-rows}
 use Rattle.sheet.specs.Counts.{mostCodes}
 use Rattle.sheet.specs.Fields.{ttiOf, phchsOf, capacityOf}
@@ -169,7 +170,7 @@ module _ (sh : Sheet) (t : ℕ) (l : t < sh .slots) where
 
   -- sub-frame h of the slot's share
   pub share-part-room : (h : ℕ) → h < subframesOf sh → h * slotCapacity sh t + slotCapacity sh t ≤ subframesOf sh * slotCapacity sh t
-  share-part-room h k = omega (arith, mul-le-mul-right {m = suc h} {n = subframesOf sh} (slotCapacity sh t) k, suc-mul h (slotCapacity sh t))
+  share-part-room h k = part-ends h (subframesOf sh) (slotCapacity sh t) k
 
   module _ {A : Type 0} where
     pub length-slot-part : (xs : List A) → length xs ≡ capacityAll sh → (h : ℕ) → h < subframesOf sh → length (slotPart sh h t xs) ≡ slotCapacity sh t

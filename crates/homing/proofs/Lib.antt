@@ -1,4 +1,5 @@
 pub mod GatherLaws
+pub mod FinishLaws
 pub mod Taken
 pub mod Labelled
 pub mod Homed

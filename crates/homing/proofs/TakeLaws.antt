@@ -2,7 +2,6 @@
 use mathlib.Core.Path.{_≡_, sym, ap, ap₂, _∙_}
 use mathlib.Core.List.{List, [], map}
 use Prim.Native.Nat.{ℕ, suc, _+_, _*_, _-_, _%_, _≤_, _<_}
-use native.Mathlib.Nat.{suc-mul, mul-le-mul-right}
 use native.Mathlib.Numerals.{add-one}
 use native.Mathlib.Omega.{arith}
 use lib.IntN.{ℤ, natAbs}
@@ -53,10 +52,6 @@ module _ (sh : Sheet) (number i : ℕ) (w : Walk) (k : Walks sh number i w) (vs 
   survey-in q = q ∙ ap (λ (l : List (List Float)). linkOf (map joinOf l)) shares
 
 -- ---- the segments, one channel after the other
-
--- segment k of f ends within them
-pub segment-ends : (k f size : ℕ) → k < f → k * size + size ≤ f * size
-segment-ends k f size h = omega (arith, mul-le-mul-right {m = suc k} {n = f} size h, suc-mul k size)
 
 -- one channel more
 module _ (o : Opened) (h : Opens o) (number : ℕ) (ms old l : List Float) (i base from : ℕ) (inside : i < o .fields .channels) where

@@ -1,11 +1,11 @@
 -- "Only the segments of this frame are written": what stands at each position of the buffer after a frame was taken back.
 use mathlib.Core.Path.{_≡_, refl, sym, ap, _∙_}
 use mathlib.Core.List.{List}
-use Prim.Native.Nat.{ℕ, zero, suc, _+_, _*_, _/_, _%_, _≤_, _<_}
-use native.Mathlib.Nat.{mod-lt, suc-mul, mul-le-mul-right}
+use Prim.Native.Nat.{ℕ, zero, suc, _+_, _*_, _%_, _≤_, _<_}
+use native.Mathlib.Nat.{mod-lt}
 use native.Mathlib.Decide.{ℕ-discrete}
 use native.Mathlib.Omega.{arith}
-use lib.Arith.{lt-of-le-ne, digits-lt, digits-div}
+use lib.Arith.{lt-of-le-ne, digits-lt}
 use lib.Pow.{pow-pos}
 use lib.Ieee.{Float}
 use lib.ListN.{length, getD}
@@ -13,6 +13,7 @@ use lib.Seq.{length-sets}
 use Rattle.laws.specs.Sums.{sumTo}
 use Rattle.laws.proofs.SumLaws.{sum-within, parts-apart}
 use Rattle.laws.proofs.StoreLaws.{sets-outside, sets-inside}
+use Rattle.laws.proofs.FallLaws.{part-ends, digits-apart}
 use Rattle.sheet.specs.Fields.{ttiOf}
 use Rattle.sheet.specs.Sizes.{framesOf, sizeOf, equalisedOf, equalisedAll}
 use Rattle.sheet.specs.declared.Sheet.{Sheet}
@@ -41,12 +42,7 @@ module _ (sh : Sheet) where
       let s : sumTo (equalisedOf sh) i ≡ sumTo (equalisedOf sh) j = ap (sumTo (equalisedOf sh)) q in
       let z : sizeOf sh j ≡ sizeOf sh i = ap (sizeOf sh) (sym q) in
       let w : k * sizeOf sh j ≡ k * sizeOf sh i = ap (λ (x : ℕ). k * x) z in
-      let u : n * sizeOf sh i + m ≡ k * sizeOf sh i + o = omega arith in (
-        q,
-        sym (digits-div n {m = sizeOf sh i} {r = m} hm)
-            ∙ ap (λ (x : ℕ). x / sizeOf sh i) u
-            ∙ digits-div k {m = sizeOf sh i} {r = o} (omega arith),
-      )
+      (q, digits-apart (sizeOf sh i) n m k o hm (omega arith) (omega arith) .0)
 
   -- a segment lies within the buffer, and no two have a position in common
   pub segment-within : (i n : ℕ) → i < sh .channels → n < framesOf sh i → channelStart sh i + n * sizeOf sh i + sizeOf sh i ≤ equalisedAll sh
@@ -54,8 +50,7 @@ module _ (sh : Sheet) where
   segment-within i n l h =
       omega (
         arith,
-        suc-mul n (sizeOf sh i),
-        mul-le-mul-right {m = suc n} {n = framesOf sh i} (sizeOf sh i) h,
+        part-ends n (framesOf sh i) (sizeOf sh i) h,
         sum-within (equalisedOf sh) i (sh .channels) l,
       )
 

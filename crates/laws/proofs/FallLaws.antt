@@ -1,7 +1,7 @@
 -- Into which of equal parts, which term of a sum, and which list of which row a number falls; and that there is one only.
 use mathlib.Core.Path.{_≡_, refl, sym, ap, _∙_}
 use Prim.Native.Nat.{ℕ, zero, suc, _+_, _*_, _-_, _/_, _%_, _≤_, _<_}
-use native.Mathlib.Nat.{mul-zero, mul-add, mod-lt, div-add-mod', div-lt-iff-lt-mul}
+use native.Mathlib.Nat.{mul-zero, mul-add, suc-mul, mul-le-mul-right, mod-lt, div-add-mod', div-lt-iff-lt-mul}
 use native.Mathlib.Omega.{arith}
 use lib.Arith.{digits-div}
 use Rattle.laws.specs.Sums.{sumTo}
@@ -10,6 +10,10 @@ use Rattle.laws.proofs.SumLaws.{sum-within, parts-apart}
 use Rattle.laws.proofs.LeastLaws.{first-passes}
 
 -- ---- m parts of w each
+
+-- part k of them ends within all
+pub part-ends : (k m w : ℕ) → k < m → k * w + w ≤ m * w
+part-ends k m w h = omega (arith, mul-le-mul-right {m = suc k} {n = m} w h, suc-mul k w)
 
 pub record Digits (m w j : ℕ) : Type 0 where
   pub part : ℕ

@@ -2,13 +2,14 @@
 use mathlib.Core.Path.{_≡_, refl, sym, ap, _∙_}
 use mathlib.Core.List.{List, [], _∷_, map}
 use Prim.Native.Nat.{ℕ, zero, suc, _+_, _*_, _≤_, _<_}
-use native.Mathlib.Nat.{zero-mul, suc-mul, mul-le-mul-right}
+use native.Mathlib.Nat.{zero-mul, suc-mul}
 use native.Mathlib.Omega.{arith}
 use lib.ListN.{length, getD, take, drop}
 use lib.Seq.{take-take, drop-drop}
 use Rattle.laws.specs.Sums.{sumTo}
 use Rattle.laws.specs.Joined.{joined, inRows}
 use Rattle.laws.proofs.SumLaws.{sum-within}
+use Rattle.laws.proofs.FallLaws.{part-ends}
 use Rattle.laws.proofs.JoinedLaws.{Begins, length-joined, joined-at, joined-part, joined-same, map-joined, cut-joined, one-part}
 
 -- a part of a part
@@ -21,7 +22,7 @@ part-within (x ∷ xs) (suc n) (suc a) k h = part-within xs n a k (omega arith)
 -- row h, list t of it, ends within the rows
 pub row-room : (c : ℕ → ℕ) (m n h t : ℕ) → h < m → t < n → h * sumTo c n + sumTo c t + c t ≤ m * sumTo c n
 row-room c m n h t l k =
-    omega (arith, mul-le-mul-right {m = suc h} {n = m} (sumTo c n) l, suc-mul h (sumTo c n), sum-within c t n k)
+    omega (arith, part-ends h m (sumTo c n) l, sum-within c t n k)
 
 module _ {A : Type 0} (c : ℕ → ℕ) (g : ℕ → ℕ → List A) (m n : ℕ) (long : (h t : ℕ) → h < m → t < n → length (g h t) ≡ c t) where
   row-begins : (h : ℕ) → h < m → Begins (g h) (sumTo c) n

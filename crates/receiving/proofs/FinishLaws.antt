@@ -1,61 +1,28 @@
--- Laws of finishing a channel: its part of the buffer, and the numbers.
+-- Laws of the numbers of finishing a channel.
 use mathlib.Core.Path.{_≡_, refl, sym, ap, _∙_}
 use mathlib.Core.Bool.{true, false, not, _||_}
 use mathlib.Core.List.{List, [], _∷_}
-use Prim.Native.Nat.{ℕ, _+_, _-_, _≤_, _<_}
+use Prim.Native.Nat.{ℕ, _-_}
 use native.Mathlib.Omega.{arith}
 use borrow.Author.Tests.{eq-eqb, ne-eqb}
-use lib.Ieee.{Float, nan}
-use lib.ListN.{length, take, drop}
-use Rattle.laws.proofs.SumLaws.{sum-within}
+use lib.Ieee.{Float}
+use lib.ListN.{length}
 use Rattle.counters.specs.Lines.{Line, line, firstOf}
 use Rattle.counters.proofs.LineLaws.{here, past, clear-of, append-clear, first-append}
-use Rattle.sheet.specs.Fields.{sheetOf, ttiOf, encodedOf}
-use Rattle.sheet.specs.Sizes.{framesOf, sizeOf, equalisedOf, equalisedAll}
+use Rattle.sheet.specs.Fields.{sheetOf, encodedOf}
+use Rattle.sheet.specs.Sizes.{equalisedAll}
 use Rattle.sheet.specs.Numbers.{readLines}
-use Rattle.sheet.specs.Range.{Ranged}
 use Rattle.sheet.specs.declared.Sheet.{Sheet}
 use Rattle.sheet.proofs.NumberLaws.{read-numbered}
-use Rattle.orders.proofs.OrderLaws.{frames-bounds}
-use Rattle.interleaving.specs.First.{finished, Finishing}
-use Rattle.interleaving.proofs.EqualisedLaws.{segments-hold}
 use Rattle.opening.specs.Opened.{openAnswer}
 use Rattle.opening.specs.declared.OpenAnswer.{OpenAnswer}
 use Rattle.opening.proofs.OpenLaws.{number-open, fields-open}
-use Rattle.laws.proofs.PartLaws.{part-length}
-use Rattle.homing.specs.Home.{channelStart, finishedOf}
+use Rattle.homing.specs.Home.{finishedOf}
 use Rattle.looking.specs.Looking.{noTrch, notLong}
 use Rattle.looking.specs.Outcome.{outcome}
 use Rattle.looking.proofs.LookLaws.{either-left, either-right, both-clear}
 use Rattle.looking.proofs.OutcomeLaws.{wrote-no, wrote-yes}
 use Rattle.receiving.specs.Receiving.{finishLines, finishInto}
-
--- ---- the channel's part, which begins at a and has u values
-
-module _ (sh : Sheet) (i : ℕ) {a u : ℕ} (pa : a ≡ channelStart sh i) (pu : u ≡ equalisedOf sh i) where
-  pub part-ends : i < sh .channels → a + u ≤ equalisedAll sh
-  unfolding channelStart
-  part-ends l = omega (arith, sum-within (equalisedOf sh) i (sh .channels) l)
-
-  module _ {t n e : ℕ} (pt : t ≡ ttiOf sh i) (pn : n ≡ sizeOf sh i) (pe : e ≡ encodedOf sh i) (buffer : List Float) where
-    pub part-finishes : Ranged sh → i < sh .channels → length buffer ≡ equalisedAll sh → Finishing t n (length (take (a + u - a) (drop a buffer))) e
-    part-finishes r l full =
-        let long : length (take (a + u - a) (drop a buffer)) ≡ equalisedOf sh i =
-        part-length buffer a (a + u) (omega arith) (omega (arith, part-ends l)) ∙ (let q : a + u - a ≡ u = omega arith in q ∙ pu) in
-        rw (pt, pn, pe)
-        (record {
-          known = r .tti i l;
-          whole = long;
-          fits = segments-hold (encodedOf sh i) (framesOf sh i) (frames-bounds (ttiOf sh i) (r .tti i l) .0) .0;
-        })
-
-    pub part-finished : finished nan t n e (take (a + u - a) (drop a buffer)) ≡ finishedOf sh i buffer
-    unfolding finishedOf
-    part-finished =
-        let q : a + u - a ≡ equalisedOf sh i = omega arith in
-        rw (pt, pn, pe, q, pa)
-
--- ---- the numbers
 
 module _ (s : List ℕ) (a : OpenAnswer) (o : a ≡ openAnswer s) (k : ℕ) (buffer old : List Float) where
   abbrev later : Sheet → List Line

@@ -4,10 +4,10 @@ use Prim.Native.Nat.{_+_, _≤_}
 use lib.ListN.{length, getD}
 use Rattle.sheet.specs.Sizes.{sizeOf}
 use Rattle.opening.proofs.OpenLaws.{size-is}
-use Rattle.receiving.proofs.FinishLaws.{part-ends, part-finishes, part-finished}
+use Rattle.homing.proofs.FinishLaws.{part-ends, part-finishes, part-finished}
 use borrow.Author.Needs.{needs}
-use Rattle.receiving.proofs.finishing.finish_channel.Statement.{statement}
-use Rattle.receiving.proofs.finishing.finish_channel.Tie as tie
+use Rattle.homing.proofs.finishing.finish_channel.Statement.{statement}
+use Rattle.homing.proofs.finishing.finish_channel.Tie as tie
 
 -- the channel's part
 module _ (c : tie.After-equalised) where
