@@ -137,7 +137,7 @@ caps-at sh t p h = getD-take (phchsOf sh t) (drop (mostCodes * t) (sh .caps)) p 
 module _ (sh : Sheet) (ok : Accepted sh) (t : ℕ) (l : t < sh .slots) where
   pub caps-length : length (capsOf sh t) ≡ phchsOf sh t
   unfolding capsOf
-  caps-length = rw (length-take, length-drop, ok .whole) (omega (arith, ok .ranged .phch16 t l, ok .ranged .fifteen))
+  caps-length = rw (length-take, length-drop, ok .whole) (omega (arith, ok .ranged .phch16 t l, ok .ranged .few-slots))
 
   pub caps-size : slotSize (capsOf sh t) ≡ slotCapacity sh t
   caps-size = ap (sumTo (at (capsOf sh t))) caps-length ∙ sum-same (at (capsOf sh t)) (capacityOf sh t) (phchsOf sh t) (caps-at sh t)

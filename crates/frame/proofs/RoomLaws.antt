@@ -26,7 +26,7 @@ room-most sh a = record { segments = λ i l. omega (arith, sizes-most sh a i l);
 pub room-above : (o : Opened) (n : ℕ) → Opens o → NoneAbove (o .sizes) mostChannels n → capacityAll (o .fields) ≤ n → Room (o .fields) n
 room-above o n h a d =
     record {
-      segments = λ i l. omega (arith, size-is o h i l, a i (omega (arith, h .accepted .ranged .eight)));
+      segments = λ i l. omega (arith, size-is o h i l, a i (omega (arith, h .accepted .ranged .few-channels)));
       places = d;
     }
 

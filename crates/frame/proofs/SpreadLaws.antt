@@ -43,7 +43,7 @@ module _ {A : Type 0} {sh : Sheet} {made : ℕ → List A} {o out : List A} {t a
       → Spanned (sh .phchs) (sh .caps) t a (length out)
   span-asks ask l =
       record {
-        slot = omega (arith, ask .0 .ranged .fifteen);
+        slot = omega (arith, ask .0 .ranged .few-slots);
         codes = ask .0 .ranged .phch16 t l;
         room = omega (arith, ask .2, h .begins, h .long, sum-within (slotCapacity sh) t (sh .slots) l, capacity-one sh);
       }

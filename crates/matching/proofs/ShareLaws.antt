@@ -133,7 +133,7 @@ parts-all sh k e = ap (filledTo (sumTo (weightOf sh))) e
 module _ (sh : Sheet) (r : Ranged sh) (parts : List ℕ) (e : parts ≡ partsOf sh) where
   part-at : (i : ℕ) → i ≤ sh .channels → getD parts i 0 ≡ sumTo (weightOf sh) i
   unfolding partsOf
-  part-at i h = rw e (filled-at (sumTo (weightOf sh)) (sh .channels + 1) (mostChannels + 1) i (omega (arith, r .eight)) (omega arith))
+  part-at i h = rw e (filled-at (sumTo (weightOf sh)) (sh .channels + 1) (mostChannels + 1) i (omega (arith, r .few-channels)) (omega arith))
 
   pub part-none : (d all : ℕ) → d * getD parts 0 0 / all ≡ 0
   unfolding sumTo
@@ -148,7 +148,7 @@ module _ (sh : Sheet) (r : Ranged sh) (parts : List ℕ) (e : parts ≡ partsOf 
       sum-most (weightOf sh) (mostRatio * mostEncoded) i
       (λ k l. mul-le-mul (r .ratio256 k (omega arith)) (le-trans (size-most (encodedOf sh k) (framesOf sh k)) (r .encoded k (omega arith))))
       in
-      omega (arith, part-at i h, r .eight)
+      omega (arith, part-at i h, r .few-channels)
 
   pub product-most : (i : ℕ) → i ≤ sh .channels → {d : ℕ} → d ≤ 65535 * mostCapacities
       → d * getD parts i 0 ≤ 65535 * mostCapacities * (mostRatio * mostEncoded * mostChannels)

@@ -73,14 +73,14 @@ one-size caps from {n} {r} e q =
 -- the slot's beginning and its capacity, by the arrays that are lent
 module _ (sh : Sheet) (ok : Accepted sh) (t : ℕ) (l : t < sh .slots) {phchs caps : List ℕ} (ep : phchs ≡ sh .phchs) (ec : caps ≡ sh .caps) where
   pub start-asks : (t ≤ mostSlots) × ((k : ℕ) → k < t → getD phchs k 0 ≤ mostCodes)
-  start-asks = (omega (arith, ok .ranged .fifteen), λ k h. rw ep (ok .ranged .phch16 k (omega arith)))
+  start-asks = (omega (arith, ok .ranged .few-slots), λ k h. rw ep (ok .ranged .phch16 k (omega arith)))
 
   pub start-is : {r : ℕ} → r ≡ wholeLoad phchs caps t .sum → r ≡ slotStart sh t
   start-is e = e ∙ ap₂ (λ (p c : List ℕ). wholeLoad p c t .sum) ep ec
 
   module _ {n : ℕ} (e : n ≡ getD phchs t 0) where
     pub size-asks : mostCodes * t + n ≤ mostCapacities
-    size-asks = omega (arith, ok .ranged .fifteen, lent-count sh ok t l ep ec e, ok .ranged .phch16 t l)
+    size-asks = omega (arith, ok .ranged .few-slots, lent-count sh ok t l ep ec e, ok .ranged .phch16 t l)
 
     pub size-is : {r : ℕ} → r ≡ slotLoad caps (mostCodes * t) n .sum → r ≡ slotCapacity sh t
     size-is q = q ∙ ap₂ (λ (c : List ℕ) (k : ℕ). slotLoad c (mostCodes * t) k .sum) ec (lent-count sh ok t l ep ec e)

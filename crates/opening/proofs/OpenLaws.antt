@@ -63,7 +63,7 @@ accepted-in s z = record { ranged = ranged-in s; loads = readable s z .loads; wh
 -- what stands in an opened sheet
 module _ (o : Opened) (h : Opens o) (i : ℕ) (l : i < o .fields .channels) where
   abbrev few : o .fields .channels ≤ mostChannels
-  few = h .accepted .ranged .eight
+  few = h .accepted .ranged .few-channels
 
   pub size-is : getD (o .sizes) i 0 ≡ sizeOf (o .fields) i
   size-is = ap (λ (x : Opened). getD (x .sizes) i 0) (h .own) ∙ sizes-at (o .fields) i few l
@@ -84,7 +84,7 @@ pub last-is : (o : Opened) → Opens o → getD (o .cuts) (o .fields .channels) 
 last-is o h =
     let f = o .fields in
     ap (λ (x : Opened). getD (x .cuts) (f .channels) 0) (h .own)
-    ∙ cuts-at f (f .channels) (h .accepted .ranged .eight) (omega arith)
+    ∙ cuts-at f (f .channels) (h .accepted .ranged .few-channels) (omega arith)
     ∙ cut-last (capacityAll f) (weightOf f) (f .channels) (weighs f (h .accepted))
 
 -- the walk over the Z: those up to i are not above x

@@ -75,8 +75,8 @@ module _ (s : List ℕ) where
       record {
         mode = omega (arith, mode-in, bits-lt s modeAt modeWidth);
         one = omega (arith, channels-in);
-        eight = omega (arith, channels-in, channels-most s);
-        fifteen = omega (arith, slots-in, slots-most s);
+        few-channels = omega (arith, channels-in, channels-most s);
+        few-slots = omega (arith, slots-in, slots-most s);
         tti = λ i h. omega (arith, tti-in i (ch i h), bits-lt s (channelAt i) ttiWidth);
         encoded = λ i h. omega (arith, encoded-in i (ch i h), bits-lt s (channelAt i + ttiWidth) encodedWidth);
         ratio = λ i h. omega (arith, ratio-in i (ch i h));

@@ -51,7 +51,7 @@ load-same p q = rw (p, q)
 
 -- what a sheet's capacities come to: that it may be asked, and what it is
 pub codes-few : (sh : Sheet) (n : ℕ) → Ranged sh → n ≡ sh .slots → (n ≤ mostSlots) × ((t : ℕ) → t < n → phchsOf sh t ≤ mostCodes)
-codes-few sh n r e = (omega (arith, r .fifteen), λ t l. r .phch16 t (omega arith))
+codes-few sh n r e = (omega (arith, r .few-slots), λ t l. r .phch16 t (omega arith))
 
 pub load-is : (sh : Sheet) (n : ℕ) (load : Load) → n ≡ sh .slots → load ≡ wholeLoad (sh .phchs) (sh .caps) n → load ≡ loadOf sh
 load-is sh n load e h = h ∙ ap (wholeLoad (sh .phchs) (sh .caps)) e
@@ -74,7 +74,7 @@ load-sum sh t e h = ap (λ (x : Load). x .sum) (h ∙ ap (slotLoad (sh .caps) (m
 pub need-most : (sh : Sheet) → Ranged sh → bitsNeeded sh ≤ mostNeeded
 need-most sh r =
     let b = sum-most (λ t. slotWidth (phchsOf sh t)) (slotWidth mostCodes) (sh .slots) (λ t l. omega (arith, r .phch16 t l)) in
-    omega (arith, r .fifteen, r .eight)
+    omega (arith, r .few-slots, r .few-channels)
 
 pub bytes-most : (sh : Sheet) → Ranged sh → bytesNeeded sh ≤ longestSheet
 bytes-most sh r = omega (arith, need-most sh r)

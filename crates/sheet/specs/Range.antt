@@ -12,8 +12,8 @@ use Rattle.sheet.specs.declared.Sheet.{Sheet}
 pub record Ranged (sh : Sheet) : Type 0 where
   pub mode : sh .mode ≤ 1
   pub one : 1 ≤ sh .channels
-  pub eight : sh .channels ≤ mostChannels
-  pub fifteen : sh .slots ≤ mostSlots
+  pub few-channels : sh .channels ≤ mostChannels
+  pub few-slots : sh .slots ≤ mostSlots
   pub tti : (i : ℕ) → i < sh .channels → ttiOf sh i ≤ mostTti
   pub encoded : (i : ℕ) → i < sh .channels → encodedOf sh i ≤ mostEncoded
   pub ratio : (i : ℕ) → i < sh .channels → 1 ≤ ratioOf sh i

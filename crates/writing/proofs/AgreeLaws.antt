@@ -77,7 +77,7 @@ module _ (sh : Sheet) (r : Ranged sh) where
       let q : m / mostCodes ≡ t = omega (arith, r .phch16 t l) in
       let u : m % mostCodes ≡ p = omega (arith, r .phch16 t l) in
       filled-at (λ j. upTo (phchsOf sh (j / mostCodes)) (j % mostCodes) (getD (sh .caps) j 0)) (mostCodes * sh .slots) mostCapacities m
-      (omega (arith, r .fifteen, r .phch16 t l)) (omega (arith, r .phch16 t l))
+      (omega (arith, r .few-slots, r .phch16 t l)) (omega (arith, r .phch16 t l))
       ∙ ap₂ (λ (x y : ℕ). upTo (phchsOf sh x) y (capacityOf sh t p)) q u
       ∙ upTo-below (phchsOf sh t) p (capacityOf sh t p) k
 
@@ -87,8 +87,8 @@ module _ (sh : Sheet) (r : Ranged sh) where
       record {
         channels = refl;
         slots = refl;
-        tti = λ i l. filled-at (ttiOf sh) (sh .channels) mostChannels i (omega (arith, r .eight)) l;
-        encoded = λ i l. filled-at (encodedOf sh) (sh .channels) mostChannels i (omega (arith, r .eight)) l;
-        phchs = λ t l. filled-at (phchsOf sh) (sh .slots) mostSlots t (omega (arith, r .fifteen)) l;
+        tti = λ i l. filled-at (ttiOf sh) (sh .channels) mostChannels i (omega (arith, r .few-channels)) l;
+        encoded = λ i l. filled-at (encodedOf sh) (sh .channels) mostChannels i (omega (arith, r .few-channels)) l;
+        phchs = λ t l. filled-at (phchsOf sh) (sh .slots) mostSlots t (omega (arith, r .few-slots)) l;
         caps = trim-caps;
       }

@@ -128,10 +128,10 @@ module _ (sh : Sheet) (f : ℕ → ℕ) where
       read-mode = read-head 1 (omega arith) (omega (arith, r .mode))
 
       pub read-count : val f countAt countWidth ≡ sh .channels - 1
-      read-count = read-head 2 (omega arith) (omega (arith, r .eight))
+      read-count = read-head 2 (omega arith) (omega (arith, r .few-channels))
 
       pub read-slots : val f slotsAt slotsWidth ≡ sh .slots
-      read-slots = read-head 3 (omega arith) (omega (arith, r .fifteen))
+      read-slots = read-head 3 (omega arith) (omega (arith, r .few-slots))
 
       pub read-spare : (k : ℕ) → k < 8 → getD (headValues sh) k 0 ≡ 0 → val f (widthTo headWidths k) (getD headWidths k 0) ≡ 0
       read-spare k l z = read-head k l (subst (λ (x : ℕ). x < 2 ^ getD headWidths k 0) (sym z) (pow-pos (getD headWidths k 0))) ∙ z

@@ -69,8 +69,8 @@ module _ (sh : Sheet) (h : fieldOutside sh ≡ false) where
       record {
         mode = ltb-false 1 (sh .mode) (or-left _ _ h);
         one = number .0;
-        eight = number .1;
-        fifteen = ltb-false mostSlots (sh .slots) (or-left _ (someChannel sh || someSlot sh) slots);
+        few-channels = number .1;
+        few-slots = ltb-false mostSlots (sh .slots) (or-left _ (someChannel sh || someSlot sh) slots);
         tti = λ i l. ltb-false mostTti _ (or-left _ (ltb mostEncoded (encodedOf sh i) || outside 1 mostRatio (ratioOf sh i)) (channel i l));
         encoded = λ i l. ltb-false mostEncoded _ (or-left _ (outside 1 mostRatio (ratioOf sh i)) (behind i l));
         ratio = λ i l. ratio i l .0;
@@ -86,8 +86,8 @@ module _ (sh : Sheet) (h : fieldOutside sh ≡ false) where
 pub inside-of : (sh : Sheet) → Ranged sh → fieldOutside sh ≡ false
 inside-of sh r =
     ap₂ _||_ (le-ltb 1 (sh .mode) (r .mode))
-    (ap₂ _||_ (not-outside 1 mostChannels (sh .channels) (r .one) (r .eight))
-    (ap₂ _||_ (le-ltb mostSlots (sh .slots) (r .fifteen))
+    (ap₂ _||_ (not-outside 1 mostChannels (sh .channels) (r .one) (r .few-channels))
+    (ap₂ _||_ (le-ltb mostSlots (sh .slots) (r .few-slots))
     (ap₂ _||_
     (any-none (channelOutside sh) (sh .channels)
     (λ i l.

@@ -32,7 +32,7 @@ channel-line-requires : tie.Need-channel-line-requires Inv-loop μ-loop
 channel-line-requires c κs =
     let s = c .before .before .before .before .before .before .before .before .before in
     let l = c .before .before .loop in
-    (l .inv .2, omega (arith, s .pre .1 .accepted .ranged .eight), s .pre .1, omega arith)
+    (l .inv .2, omega (arith, s .pre .1 .accepted .ranged .few-channels), s .pre .1, omega arith)
 
 add-i : tie.Need-add-i Inv-loop μ-loop
 add-i c = omega arith
@@ -61,7 +61,7 @@ returns c =
     let l = c .before .loop in
     let e : l .i ≡ a .opened .fields .channels = omega arith in (
       subst (λ (x : ℕ). Lists (a .out .now) (l .out) (l .at) (linesTo (a .opened .fields) x)) e (l .inv .3 (a .out .now) (c .before .before .before .before .head-line .ensures .0)),
-      omega (arith, s .pre .1 .accepted .ranged .eight),
+      omega (arith, s .pre .1 .accepted .ranged .few-channels),
     )
 
 pub list-spec : {M : Type 1} → statement M

@@ -70,7 +70,7 @@ capacity-requires : tie.Need-capacity-requires
 capacity-requires c κs = opens (c .before)
 
 all-encoded-requires : tie.Need-all-encoded-requires
-all-encoded-requires c κs = opens (c .before .before) .accepted .ranged .eight
+all-encoded-requires c κs = opens (c .before .before) .accepted .ranged .few-channels
 
 look-requires : tie.Need-look-requires
 look-requires c κs = search needs

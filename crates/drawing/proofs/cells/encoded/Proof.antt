@@ -2,12 +2,13 @@ use mathlib.Core.Path.{sym, _∙_}
 use Prim.Native.Nat.{_≤_, _<_}
 use native.Mathlib.Omega.{arith}
 use Rattle.counters.proofs.CountLaws.{among-true}
+use Rattle.sheet.specs.Counts.{mostChannels}
 use borrow.Author.Needs.{needs}
 use Rattle.drawing.proofs.cells.encoded.Statement.{statement}
 use Rattle.drawing.proofs.cells.encoded.Tie as tie
 
-there : (c : tie.Then1) → (0 < c .before .before .args .trch .0) × (c .before .before .args .trch .0 ≤ 8)
-there c = among-true (c .before .before .args .trch .0) 8 (sym (c .before .is-among .ensures) ∙ c .if1 .taken)
+there : (c : tie.Then1) → (0 < c .before .before .args .trch .0) × (c .before .before .args .trch .0 ≤ mostChannels)
+there c = among-true (c .before .before .args .trch .0) mostChannels (sym (c .before .is-among .ensures) ∙ c .if1 .taken)
 
 cast-is-among : tie.Need-cast-is-among
 cast-is-among c = search needs

@@ -17,7 +17,7 @@ abbrev μ-loop : tie.MeasureT-loop
 
 loop-holds : tie.Need-loop-holds Inv-loop μ-loop
 unfolding sumTo
-loop-holds c = (omega arith, omega (arith, c .pre .0 .eight, c .pre .1), refl, omega arith)
+loop-holds c = (omega arith, omega (arith, c .pre .0 .few-channels, c .pre .1), refl, omega arith)
 
 mul-equalised : tie.Need-mul-equalised Inv-loop μ-loop
 mul-equalised c = omega arith

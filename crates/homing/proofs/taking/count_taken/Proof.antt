@@ -37,10 +37,10 @@ mul-sum : tie.Need-mul-sum Inv-loop μ-loop
 mul-sum c = omega arith
 
 array-read-sum : tie.Need-array-read-sum Inv-loop μ-loop
-array-read-sum c = omega (arith, few c .0, c .before .before .before .before .before .pre .accepted .ranged .eight)
+array-read-sum c = omega (arith, few c .0, c .before .before .before .before .before .pre .accepted .ranged .few-channels)
 
 add-sum : tie.Need-add-sum Inv-loop μ-loop
-add-sum c = omega (arith, few c .1, c .before .before .before .before .before .pre .accepted .ranged .eight)
+add-sum c = omega (arith, few c .1, c .before .before .before .before .before .pre .accepted .ranged .few-channels)
 
 add-i : tie.Need-add-i Inv-loop μ-loop
 add-i c = omega arith

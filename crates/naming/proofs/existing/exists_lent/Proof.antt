@@ -22,7 +22,7 @@ module _ (c : tie.Then1) where
   slot-there : (0 < c .before .before .args .slot) × (c .before .before .args .slot ≤ 15)
   slot-there =
       let s = c .before .before in
-      omega (arith, among-true (s .args .slot) (s .args .fields .slots) slot-asked, s .pre .0 .fifteen)
+      omega (arith, among-true (s .args .slot) (s .args .fields .slots) slot-asked, s .pre .0 .few-slots)
 
 -- whether the physical channel exists
 phch-answer : (c : tie.After-is-among2)

@@ -33,7 +33,7 @@ part-bit-at-end : tie.Need-part-bit-at-end
 part-bit-at-end c =
     let s = c .before .before .before in
     let n = lent-count (s .args .fields) (s .pre .0) (s .args .t) (s .pre .3) (s .pre .1) (s .pre .2) (c .count .ensures .0) in
-    omega (arith, n, s .pre .0 .ranged .phch16 (s .args .t) (s .pre .3), s .pre .0 .ranged .fifteen)
+    omega (arith, n, s .pre .0 .ranged .phch16 (s .args .t) (s .pre .3), s .pre .0 .ranged .few-slots)
 
 bit-at-requires : tie.Need-bit-at-requires
 bit-at-requires c κs =

@@ -1,13 +1,14 @@
 use Prim.Native.Nat.{_+_, _*_, _≤_, _-_}
+use Rattle.sheet.specs.Counts.{mostChannels}
 use borrow.Author.Needs.{needs}
 use Rattle.picture.proofs.legend.say_channels.Statement.{statement}
 use Rattle.picture.proofs.legend.say_channels.Tie as tie
 
 abbrev Inv-loop : tie.InvT-loop
-Inv-loop out₀ at sheet k₀ y₀ i₀ out k y i = (i ≤ 8) × (y ≤ 84 + 20 * i)
+Inv-loop out₀ at sheet k₀ y₀ i₀ out k y i = (i ≤ mostChannels) × (y ≤ 84 + 20 * i)
 
 abbrev μ-loop : tie.MeasureT-loop
-μ-loop out₀ at sheet k₀ y₀ i₀ out k y i = 8 - i
+μ-loop out₀ at sheet k₀ y₀ i₀ out k y i = mostChannels - i
 
 loop-holds : tie.Need-loop-holds Inv-loop μ-loop
 loop-holds c = search needs

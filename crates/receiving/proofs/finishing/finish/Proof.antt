@@ -86,7 +86,7 @@ mul-wide : tie.Need-mul-wide
 mul-wide c = search needs
 
 element-copy-out-wide : tie.Need-element-copy-out-wide
-element-copy-out-wide c = let k = c .before .before .before in omega (arith, within k .1, opened k .accepted .ranged .eight)
+element-copy-out-wide c = let k = c .before .before .before in omega (arith, within k .1, opened k .accepted .ranged .few-channels)
 
 wide-requires : tie.Need-wide-requires
 wide-requires c κs = search needs

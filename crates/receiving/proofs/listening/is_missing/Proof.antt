@@ -45,7 +45,7 @@ mul-is-among c = search needs
 array-read-is-among : tie.Need-array-read-is-among
 array-read-is-among c =
     let k = c .before .before in
-    omega (arith, trch-there (start k .args .opened .fields) (trch k) (there k), c .index .ensures, start k .pre .accepted .ranged .eight)
+    omega (arith, trch-there (start k .args .opened .fields) (trch k) (there k), c .index .ensures, start k .pre .accepted .ranged .few-channels)
 
 is-among-requires : tie.Need-is-among-requires
 is-among-requires c κs = search needs

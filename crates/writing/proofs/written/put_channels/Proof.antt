@@ -19,7 +19,7 @@ abbrev fieldsAt : tie.At-loop Inv-loop μ-loop → Sheet
 fieldsAt c = c .before .before .before .args .t2
 
 below : (c : tie.At-loop Inv-loop μ-loop) → c .loop .i < fieldsAt c .channels → c .loop .i < mostChannels
-below c h = omega (arith, c .before .before .before .pre .0 .eight)
+below c h = omega (arith, c .before .before .before .pre .0 .few-channels)
 
 -- the turn in which each field is put
 abbrev turn1 : tie.After-put-field Inv-loop μ-loop → tie.At-loop Inv-loop μ-loop
