@@ -34,6 +34,10 @@ full-need : bytesNeeded full ≡ longestSheet
 unfolding full sumTo
 full-need = refl
 
+-- "The longest has 394 bytes."
+pub longest-is : longestSheet ≡ 394
+longest-is = refl
+
 pub full-length : length (bytesOf full) ≡ longestSheet
 full-length = bytes-length full ∙ full-need
 
