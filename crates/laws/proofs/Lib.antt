@@ -13,3 +13,4 @@ pub mod TodoLaws
 pub mod FirstFailLaws
 pub mod AboveLaws
 pub mod PasteLaws
+pub mod TrailingLaws
