@@ -62,24 +62,10 @@ euclid-le zero a b h = le-refl a
 euclid-le (suc k) a zero h = le-refl a
 euclid-le (suc k) a (suc b) h = le-trans (euclid-le k (suc b) (a % suc b) (mod-le' a b)) h
 
-pub euclid-same : (k l a b : ℕ) → b < k → b < l → euclid k a b ≡ euclid l a b
-unfolding euclid
-euclid-same zero l a b h i = absurd (omega arith)
-euclid-same (suc k) zero a b h i = absurd (omega arith)
-euclid-same (suc k) (suc l) a zero h i = refl
-euclid-same (suc k) (suc l) a (suc b) h i =
-    let m : a % suc b < suc b = mod-lt a (omega arith) in
-    euclid-same k l (suc b) (a % suc b) (omega arith) (omega arith)
-
 pub gcd-le : (a b : ℕ) → 0 < b → gcd a b ≤ b
 unfolding gcd euclid
 gcd-le a zero h = absurd (omega arith)
 gcd-le a (suc b) h = euclid-le (suc b) (suc b) (a % suc b) (mod-le' a b)
-
-pub gcd-step : (a b : ℕ) → 0 < b → gcd a b ≡ gcd b (a % b)
-unfolding gcd euclid
-gcd-step a zero h = absurd (omega arith)
-gcd-step a (suc b) h = euclid-same (suc b) (suc (a % suc b)) (suc b) (a % suc b) (mod-lt a (omega arith)) (omega arith)
 
 pub added-le : (a F : ℕ) → 0 < F → addedOf a F ≤ F
 unfolding addedOf
@@ -156,10 +142,6 @@ pub q-down-pos : (N R : ℕ) → R < N → 0 < N / (N - R)
 q-down-pos N R h =
     let p : 0 < N - R = omega arith in
     le-div-iff-mul-le p .1 (rw one-mul (omega arith))
-
-pub gcd-zero : (a : ℕ) → gcd a 0 ≡ a
-unfolding gcd euclid
-gcd-zero a = refl
 
 -- x|q| for x below the most frames
 pub whole-le : (x k : ℕ) → x < mostFrames → k ≤ 16384 → x * k ≤ (mostFrames - 1) * 16384

@@ -1,7 +1,7 @@
 // Step 5: where the pattern of step 6 starts in each frame of a TTI. Signed numbers go by sign and magnitude, so that no floor of a
 // negative number is in the code.
 ghost use mathlib.Core.Path.{_≡_};
-ghost use Prim.Native.Nat.{ℕ, _+_, _*_, _%_, _≤_, _<_};
+ghost use Prim.Native.Nat.{ℕ, _+_, _*_, _%_, _^_, _≤_, _<_};
 ghost use lib.ListN.{getD};
 ghost use Rattle.sheet.specs.Counts.{mostBits, mostTti, mostFrames};
 ghost use Rattle.sheet.specs.Sizes.{framesIn};
@@ -19,22 +19,20 @@ pub struct Spacing {
     pub size: u64,
 }
 
-// The greatest common divisor, by repeated remainders.
+// The greatest common divisor, b being a power of two: two to the lesser of the trailing zeros.
 fn common(a: u64, b: u64) -> u64
+    requires { ⌜ ((k : ℕ) × (b ≡ 2 ^ k)) ⌝ }
     ensures { λ r. ⌜ r ≡ gcd a b ⌝ }
 {
-    let mut x = a;
-    let mut y = b;
-    while y != 0 {
-        let t = x % y;
-        x = y;
-        y = t;
-    }
-    x
+    let of_a = u64::trailing_zeros(a);
+    let of_b = u64::trailing_zeros(b);
+    let lesser = if of_a < of_b { of_a } else { of_b };
+    1u64 << lesser
 }
 
 // What q' is more than q, times F.
 fn added(a: u64, f: u64) -> u64
+    requires { ⌜ ((tti : ℕ) × (f ≡ framesIn tti)) ⌝ }
     ensures { λ r. ⌜ r ≡ addedOf a f ⌝ }
 {
     if a % 2 == 0 { common(a, f) } else { 0 }
@@ -83,7 +81,7 @@ fn distance(q: Spacing, f: u64, g: u64, x: u64) -> u64
 
 // S of each column.
 fn offsets(q: Spacing, f: u64) -> [u64; FRAMES]
-    requires { ⌜ (0 < f) × (f ≤ mostFrames) × (0 < q .size) × (q .size ≤ 16384) ⌝ }
+    requires { ⌜ (0 < f) × (f ≤ mostFrames) × (0 < q .size) × (q .size ≤ 16384) × ((tti : ℕ) × (f ≡ framesIn tti)) ⌝ }
     ensures { λ r. ⌜ (r ≡ filled (signedBy (q .below) (q .size)) f f) × ((i : ℕ) → getD r i 0 ≤ mostFrames * 16384) ⌝ }
 {
     let g = added(q.size, f);

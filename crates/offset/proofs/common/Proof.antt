@@ -1,32 +1,35 @@
-use borrow.Author.Needs.{needs}
+use mathlib.Core.Path.{_≡_, sym, ap, _∙_}
+use mathlib.Core.Logic.{⊎-elim}
+use Prim.Native.Nat.{ℕ, _^_, _<_, min}
+use native.Mathlib.Nat.{one-mul}
 use native.Mathlib.Omega.{arith}
-use mathlib.Core.Path.{_≡_, refl, sym, ap, _∙_}
-use native.Mathlib.Nat.{mod-lt}
+use lib.Count.{trailingZeros}
+use lib.Dec.{lit<}
+use lib.Pow.{shl-exact}
+use Rattle.laws.proofs.TrailingLaws.{greatest-power, zeros-power}
 use Rattle.offset.specs.Offset.{gcd}
-use Rattle.offset.proofs.QuotientLaws.{gcd-step, gcd-zero}
+use Rattle.offset.proofs.Meaning.{gcd-divides, gcd-greatest}
 use Rattle.offset.proofs.common.Statement.{statement}
 use Rattle.offset.proofs.common.Tie as tie
 
-abbrev Inv-loop : tie.InvT-loop
-Inv-loop a b x₀ y₀ x y = gcd x y ≡ gcd a b
+-- before the bound, so that a wrong divisor is what a check names first
+returns : tie.Need-returns
+returns c =
+    let s = c .before .before in
+    let a = s .args .a in
+    let k = s .pre .0 in
+    let r = c .before .if1 .lesser in
+    let z = zeros-power 64 k (s .args .b) (s .pre .1) (omega arith) in
+    let e : r ≡ min (trailingZeros 64 a) k = ⊎-elim (λ w. omega (arith, z)) (λ w. omega (arith, z)) (c .before .if1 .came) in
+    let d = gcd-divides a (2 ^ k) in
+    let g = greatest-power 64 k a (gcd a (2 ^ k)) (omega arith) (d .0, d .1, gcd-greatest a (2 ^ k)) in
+    shl-exact 1 r 64 (lit< tt) (omega (arith, z)) ∙ one-mul (2 ^ r) ∙ ap (λ (x : ℕ). 2 ^ x) e ∙ sym g ∙ ap (gcd a) (sym (s .pre .1))
 
-abbrev μ-loop : tie.MeasureT-loop
-μ-loop a b x₀ y₀ x y = y
-
-loop-holds : tie.Need-loop-holds Inv-loop μ-loop
-loop-holds c = refl
-
-rem-t : tie.Need-rem-t Inv-loop μ-loop
-rem-t c = search needs
-
-loop-less : tie.Need-loop-less Inv-loop μ-loop
-loop-less c = mod-lt (c .before .loop .x) (omega arith)
-
-loop-again : tie.Need-loop-again Inv-loop μ-loop
-loop-again c = sym (gcd-step (c .before .loop .x) (c .before .loop .y) (omega arith)) ∙ c .before .loop .inv
-
-returns : tie.Need-returns Inv-loop μ-loop
-returns c = sym (gcd-zero (c .before .loop .x)) ∙ (ap (gcd (c .before .loop .x)) (sym (c .loop-test .left)) ∙ c .before .loop .inv)
+shl-result : tie.Need-shl-result
+shl-result c =
+    let s = c .before .before in
+    let z = zeros-power 64 (s .pre .0) (s .args .b) (s .pre .1) (omega arith) in
+    ⊎-elim (λ w. omega (arith, z)) (λ w. omega (arith, z)) (c .before .if1 .came)
 
 pub common-spec : {M : Type 1} → statement M
-common-spec = tie.close (tie.spec Inv-loop μ-loop loop-holds rem-t loop-less loop-again returns)
+common-spec = tie.close (tie.spec shl-result returns)
