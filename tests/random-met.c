@@ -164,12 +164,13 @@ unsigned report_met(void)
 {
     static const char *const numbers[] = {"0", "1", "2", "3", "4", "5", "6", "7", "8", "9", "10", "11", "12"};
     static const char *const kinds[] = {"mode 0", "mode 1", "394", "D", "T",
-                                        "E = 0",  "V < N",  "V = N", "V > N", "1,000"};
+                                        "E = 0",  "V < N",  "V = N", "V > N", "1,000", "q odd", "q even", "F | q"};
     static const char *const parameters[] = {"1st",  "offset", "2nd",  "offset", "3rd", "offset", "frame",
                                              "TrCH", "slot",   "PhCH", "place",  "bit", "length"};
     unsigned missing = print_table("Numbers answered", numbers, NUMBERS, print_number);
     missing += print_table("Accepted: sheets of both modes and of 394 bytes, D and sums of T_i of 60,000; channels that are\n"
-                           "empty, punctured, unaltered, repeated, and of which a bit is sent 1,000 times or more",
+                           "empty, punctured, unaltered, repeated, of which a bit is sent 1,000 times or more, and, in TTIs of\n"
+                           "several frames, with a q that is odd, even and no multiple of F, and a multiple of F",
                            kinds, KINDS, print_kind);
     missing += print_table("Slices that were empty, each lent with a valid, a null and another pointer; slices at the rarest\n"
                            "offset that their type allows; numbers of 2^32 - 1 and lengths of 2^64 - 1 that drew a refusal",

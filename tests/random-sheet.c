@@ -138,12 +138,23 @@ static void damage_sheet(size_t bits)
     drawn.sheet_len = length;
 }
 
+/* |q| of step 5; R is V mod N, since d is V - N. */
+static uint64_t spacing_of(uint64_t n, uint64_t v)
+{
+    uint64_t r = v % n;
+    return r != 0 && 2 * r <= n ? (n + r - 1) / r : n / (n - r);
+}
+
 static uint32_t kinds_of_channel(uint32_t trch)
 {
     uint64_t f, e, n, v;
     reference.channel(drawn.sheet, drawn.sheet_len, trch, &f, &e, &n, &v);
-    return (uint32_t)(e == 0) << EMPTY | (uint32_t)(v < n) << PUNCTURED | (uint32_t)(v == n && n != 0) << EXACT |
-           (uint32_t)(v > n) << REPEATED | (uint32_t)(n != 0 && v >= 1000 * n) << MANY_TIMES;
+    uint32_t kinds = (uint32_t)(e == 0) << EMPTY | (uint32_t)(v < n) << PUNCTURED | (uint32_t)(v == n && n != 0) << EXACT |
+                     (uint32_t)(v > n) << REPEATED | (uint32_t)(n != 0 && v >= 1000 * n) << MANY_TIMES;
+    if (v == n || f == 1)
+        return kinds;
+    uint64_t q = spacing_of(n, v);
+    return kinds | 1u << (q % 2 == 1 ? ODD_STEP : q % f != 0 ? FEWER_ZEROS : ALL_ZEROS);
 }
 
 /* What the reference says of the sheet. */

@@ -4,7 +4,7 @@
 
 #include "call.h"
 
-/* Kinds of sheet; the last five are kinds of channel. */
+/* Kinds of sheet; from EMPTY on, kinds of channel. */
 enum kind {
     OVER_FRAME,  /* mode 0 */
     BY_SLOT,     /* mode 1 */
@@ -16,6 +16,9 @@ enum kind {
     EXACT,       /* V is N, and not 0 */
     REPEATED,    /* V above N */
     MANY_TIMES,  /* a bit is sent 1,000 times or more */
+    ODD_STEP,    /* step 5's |q| is odd, in a TTI of more than one frame, as in the next two */
+    FEWER_ZEROS, /* |q| is even, with fewer trailing zeros than F */
+    ALL_ZEROS,   /* |q| is a multiple of F */
     KINDS
 };
 
