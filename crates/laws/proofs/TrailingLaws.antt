@@ -1,14 +1,15 @@
 -- The trailing zeros of a number's binary digits, and the divisors that it has in common with a power of two.
 use mathlib.Core.Path.{_≡_, refl, sym, ap, subst, _∙_}
-use Prim.Native.Nat.{ℕ, zero, suc, _+_, _*_, _/_, _%_, _^_, _≤_, _<_, _∣_, min}
+use Prim.Native.Nat.{ℕ, zero, suc, _+_, _*_, _-_, _/_, _%_, _^_, _≤_, _<_, _∣_, min}
 use native.Mathlib.Nat.{
   pow-succ',
   mul-assoc,
-  mul-left-comm,
   add-mul,
   one-mul,
   dvd-trans,
   dvd-mul-right,
+  dvd-mul-left-of-dvd,
+  dvd-sub,
   mul-div-cancel',
   dvd-of-mod-eq-zero,
   mod-eq-zero-of-dvd,
@@ -32,20 +33,19 @@ Greatest g a b = (g ∣ a) × (g ∣ b) × ((c : ℕ) → c ∣ a → c ∣ b �
 twice-half : (n : ℕ) → n % 2 ≡ 0 → 2 * (n / 2) ≡ n
 twice-half n e = omega arith
 
--- an odd divisor of 2^k is 1
+-- n = g n - (g / 2) (2 n) for an odd g
+odd-divides : (g n : ℕ) → g % 2 ≡ 1 → g ∣ 2 * n → g ∣ n
+odd-divides g n o d =
+    let t : g / 2 * 2 + 1 ≡ g = omega arith in
+    let e : g * n ≡ g / 2 * (2 * n) + n = ap (λ (x : ℕ). x * n) (sym t) ∙ add-mul (g / 2 * 2) 1 n ∙ rw (mul-assoc, one-mul) refl in
+    let r : g * n - g / 2 * (2 * n) ≡ n = omega arith in
+    subst (λ (x : ℕ). g ∣ x) r (dvd-sub g (dvd-mul-right g n) (dvd-mul-left-of-dvd g d (g / 2)))
+
 odd-divisor : (k g : ℕ) → g % 2 ≡ 1 → g ∣ 2 ^ k → g ≡ 1
 odd-divisor zero g o d = eq-one-of-dvd-one d
-odd-divisor (suc k) g o d =
-    let c : ℕ = 2 ^ suc k / g in
-    let e : g * c ≡ 2 * 2 ^ k = mul-div-cancel' g d ∙ pow-succ' 2 k in
-    let s : (2 * (g / 2) + 1) * c ≡ 2 * (g / 2 * c) + c = add-mul (2 * (g / 2)) 1 c ∙ rw (mul-assoc, one-mul) refl in
-    let t : 2 * (g / 2) + 1 ≡ g = omega arith in
-    let u : g * c ≡ 2 * (g / 2 * c) + c = ap (λ (x : ℕ). x * c) (sym t) ∙ s in
-    let h : 2 * (c / 2) ≡ c = omega arith in
-    let v : g * c ≡ 2 * (g * (c / 2)) = ap (λ (x : ℕ). g * x) (sym h) ∙ mul-left-comm g 2 (c / 2) in
-    let w : g * (c / 2) ≡ 2 ^ k = omega arith in
-    odd-divisor k g o (subst (λ (x : ℕ). g ∣ x) w (dvd-mul-right g (c / 2)))
+odd-divisor (suc k) g o d = odd-divisor k g o (odd-divides g (2 ^ k) o (rw (← pow-succ' 2 k) d))
 
+-- what divides an odd number is odd
 odd-of : (g a : ℕ) → a % 2 ≡ 1 → g ∣ a → g % 2 ≡ 1
 odd-of g a o d = go (g % 2) refl
   where
