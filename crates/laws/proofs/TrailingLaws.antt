@@ -25,10 +25,7 @@ use native.Mathlib.Nat.{
 use native.Mathlib.Omega.{arith}
 use lib.Count.{trailingZeros, under}
 use lib.Pow.{pow-mono}
-
--- g is the greatest common divisor of a and b: it divides both, and what divides both divides it
-abbrev pub Greatest : ℕ → ℕ → ℕ → Type 0
-Greatest g a b = (g ∣ a) × (g ∣ b) × ((c : ℕ) → c ∣ a → c ∣ b → c ∣ g)
+use Rattle.laws.specs.Divisors.{Greatest}
 
 twice-half : (n : ℕ) → n % 2 ≡ 0 → 2 * (n / 2) ≡ n
 twice-half n e = omega arith

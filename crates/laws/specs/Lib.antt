@@ -6,3 +6,4 @@ pub mod Joined
 pub mod Filling
 pub mod FirstFail
 pub mod Above
+pub mod Divisors

@@ -4,6 +4,7 @@ use mathlib.Core.Path.{_≡_, _∙_, ap}
 use native.Mathlib.Nat.{div-add-mod', mod-lt, suc-mul, dvd-refl, dvd-zero, dvd-mod-iff}
 use native.Mathlib.Omega.{arith}
 use lib.IntN.{ℤ, pos, negsuc, negℤ, _+ℤ_, _*ℤ_}
+use Rattle.laws.specs.Divisors.{Greatest}
 use Rattle.offset.specs.Ints.{floorDiv, modOver}
 use Rattle.offset.specs.Offset.{euclid, gcd}
 use Rattle.offset.proofs.QuotientLaws.{neg-add}
@@ -43,10 +44,8 @@ greatest (suc k) a (suc b) c h p q =
     let m : a % suc b < suc b = mod-lt a (omega arith) in
     greatest k (suc b) (a % suc b) c (omega arith) q (dvd-mod-iff c q .1 p)
 
-pub gcd-divides : (a b : ℕ) → (gcd a b ∣ a) × (gcd a b ∣ b)
+pub gcd-greatest : (a b : ℕ) → Greatest (gcd a b) a b
 unfolding gcd
-gcd-divides a b = divides (suc b) a b (omega arith)
-
-pub gcd-greatest : (a b c : ℕ) → c ∣ a → c ∣ b → c ∣ gcd a b
-unfolding gcd
-gcd-greatest a b c = greatest (suc b) a b c (omega arith)
+gcd-greatest a b =
+    let d = divides (suc b) a b (omega arith) in
+    (d .0, d .1, λ c. greatest (suc b) a b c (omega arith))

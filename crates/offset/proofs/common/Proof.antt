@@ -8,7 +8,7 @@ use lib.Dec.{lit<}
 use lib.Pow.{shl-exact}
 use Rattle.laws.proofs.TrailingLaws.{greatest-power, zeros-power}
 use Rattle.offset.specs.Offset.{gcd}
-use Rattle.offset.proofs.Meaning.{gcd-divides, gcd-greatest}
+use Rattle.offset.proofs.Meaning.{gcd-greatest}
 use Rattle.offset.proofs.common.Statement.{statement}
 use Rattle.offset.proofs.common.Tie as tie
 
@@ -21,8 +21,7 @@ returns c =
     let r = c .before .if1 .lesser in
     let z = zeros-power 64 k (s .args .b) (s .pre .1) (omega arith) in
     let e : r ≡ min (trailingZeros 64 a) k = ⊎-elim (λ w. omega (arith, z)) (λ w. omega (arith, z)) (c .before .if1 .came) in
-    let d = gcd-divides a (2 ^ k) in
-    let g = greatest-power 64 k a (gcd a (2 ^ k)) (omega arith) (d .0, d .1, gcd-greatest a (2 ^ k)) in
+    let g = greatest-power 64 k a (gcd a (2 ^ k)) (omega arith) (gcd-greatest a (2 ^ k)) in
     shl-exact 1 r 64 (lit< tt) (omega (arith, z)) ∙ one-mul (2 ^ r) ∙ ap (λ (x : ℕ). 2 ^ x) e ∙ sym g ∙ ap (gcd a) (sym (s .pre .1))
 
 shl-result : tie.Need-shl-result
