@@ -30,7 +30,7 @@
 extern "C" {
 #endif
 
-#define UMV_RELEASE "1.0.0" /* of this header and its archive */
+#define UMV_RELEASE "1.0.1" /* of this header and its archive */
 
 /* The numbers a call answers. Each call below says which of them it can give. */
 enum umv_number {
