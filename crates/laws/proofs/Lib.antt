@@ -14,3 +14,4 @@ pub mod FirstFailLaws
 pub mod AboveLaws
 pub mod PasteLaws
 pub mod TrailingLaws
+pub mod RoundLaws

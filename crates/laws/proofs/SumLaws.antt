@@ -93,11 +93,16 @@ sum-tight f g (suc n) h e i l =
       | no m ↦ let q : i ≡ n = omega arith in rw q (omega arith)
     ]
 
+-- what rises by f at each step has risen by the sum of f
+pub sum-rises : (f g : ℕ → ℕ) (from n : ℕ) → ((m : ℕ) → g (suc m) ≡ f m + g m) → g (from + n) ≡ sumFrom f from n + g from
+unfolding sumTo
+sum-rises f g from zero h = rw (add-zero from) (omega arith)
+sum-rises f g from (suc n) h = rw (add-suc from n) (omega (arith, h (from + n), sum-rises f g from n h))
+
 -- a sum in two parts, and in three: before p, at p, past p
 pub sum-join : (f : ℕ → ℕ) (m n : ℕ) → sumTo f (m + n) ≡ sumTo f m + sumFrom f m n
 unfolding sumTo
-sum-join f m zero = rw (add-zero m) (omega arith)
-sum-join f m (suc n) = rw add-suc (omega (arith, sum-join f m n))
+sum-join f m n = omega (arith, sum-rises f (sumTo f) m n (λ k. omega arith))
 
 pub sum-parts : (f : ℕ → ℕ) (p n : ℕ) → p < n → sumTo f n ≡ sumTo f p + f p + sumFrom f (suc p) (n - suc p)
 unfolding sumTo

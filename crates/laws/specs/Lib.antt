@@ -7,3 +7,4 @@ pub mod Filling
 pub mod FirstFail
 pub mod Above
 pub mod Divisors
+pub mod Rounded
