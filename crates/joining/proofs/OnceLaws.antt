@@ -3,7 +3,7 @@ use mathlib.Core.Path.{_≡_, refl, sym, ap, ap₂, _∙_}
 use mathlib.Core.Bool.{Bool, true, false, false≢true}
 use mathlib.Core.List.{List, [], _∷_, map}
 use mathlib.Core.Logic.{_⊎_, inl, inr}
-use Prim.Native.Nat.{ℕ, zero, suc, _*_, _≤_}
+use Prim.Native.Nat.{ℕ, zero, suc, _*_, _-_, _≤_}
 use native.Mathlib.Nat.{zero-lt-suc}
 use native.Mathlib.Omega.{arith}
 use lib.ListN.{length, take, drop, length-drop}
@@ -11,6 +11,7 @@ use lib.Ieee.{Float}
 use Rattle.laws.specs.Sums.{sumTo}
 use Rattle.matching.specs.Signed.{signedBy}
 use Rattle.pattern.specs.Pattern.{copiesAt, after, copiesFrom, sharedFrom, Segment}
+use Rattle.pattern.proofs.MatchedLaws.{Differs, differs}
 use Rattle.pattern.proofs.WalkLaws.{first-apart}
 use Rattle.pattern.proofs.SegmentLaws.{sized-same, sized-copies}
 use Rattle.joining.specs.declared.Heard.{Heard}
@@ -19,7 +20,7 @@ use Rattle.joining.specs.Joining.{onceOf, joinOf, valueOf, heardOf}
 use Rattle.joining.specs.Linked.{magnitudeOf, magnitudes, punctures, linkOf}
 use Rattle.joining.proofs.MadeLaws.{once-voice}
 use Rattle.joining.proofs.HomeLaws.{heard-by, heard-same}
-use Rattle.joining.proofs.HeardLaws.{droppedBy, unheard-all}
+use Rattle.joining.proofs.HeardLaws.{unheard-all}
 use Rattle.joining.proofs.LinkLaws.{made}
 
 -- a bit of one copy, or of none
@@ -58,14 +59,14 @@ module _ (less : Bool) (m N e : ℕ) (vs : List Float) (s : Segment less m N (le
       go false (suc a) s (inr z) = absurd (omega arith)
 
   once-dropped : punctures (heardOf (signedBy less m) N e vs) ≡ m
-  once-dropped = unheard-all (signedBy less m) N e vs (s .rates) ∙ go less m h
+  once-dropped = unheard-all (signedBy less m) N e vs (s .rates) ∙ go less m h (differs (signedBy less m) N (length vs) e (s .rates))
     where
-      go : (less : Bool) (m : ℕ) → (less ≡ true) ⊎ (m ≡ 0) → droppedBy (signedBy less m) ≡ m
-      go false zero h = refl
-      go true zero h = refl
-      go true (suc a) h = refl
-      go false (suc a) (inl z) = absurd (false≢true z)
-      go false (suc a) (inr z) = absurd (omega arith)
+      go : (less : Bool) (m : ℕ) → (less ≡ true) ⊎ (m ≡ 0) → Differs (signedBy less m) N (length vs) → N - length vs ≡ m
+      go false zero h q = omega arith
+      go true zero h q = omega arith
+      go true (suc a) h q = omega arith
+      go false (suc a) (inl z) q = absurd (false≢true z)
+      go false (suc a) (inr z) q = absurd (omega arith)
 
   -- l is the record of the values
   pub link-once : {l : Link} → l ≡ linkOf (map onceOf vs)

@@ -1,6 +1,7 @@
 pub mod CountLaws
 pub mod WalkLaws
 pub mod MatchedLaws
+pub mod EvenLaws
 pub mod StartLaws
 pub mod SourceLaws
 pub mod TextLaws
