@@ -48,8 +48,8 @@ test: setup
 	@$(MAKE) --no-print-directory ctest
 	@tail -n 1 target/ci.log | grep -Ex '[0-9]+ passed, 0 failed'
 
-ctest: target/c/calls target/c/values target/c/vectors target/c/random target/c/home target/c/nan target/c/picture target/c/tour \
-	target/c/sizes $(LISTER) $(PICTURE)
+ctest: target/c/calls target/c/values target/c/vectors target/c/random target/c/home target/c/thinned target/c/nan target/c/picture \
+	target/c/tour target/c/sizes $(LISTER) $(PICTURE)
 	$(RUN) target/c/calls
 	$(RUN) target/c/values
 	@run() { if [ -f "$$2" ]; then echo "$(RUN) target/c/vectors $$*"; $(RUN) target/c/vectors "$$@"; \
@@ -58,6 +58,7 @@ ctest: target/c/calls target/c/values target/c/vectors target/c/random target/c/
 	for file in $(CASES) '$(VECTORS)'; do run library "$$file"; done
 	$(RUN) target/c/random
 	$(RUN) target/c/home
+	$(RUN) target/c/thinned
 	$(RUN) target/c/nan
 	tests/lister.sh $(RUN) $(LISTER)
 	tests/picture.sh $(PICTURE) target/c/picture $(RUN)
@@ -101,9 +102,12 @@ uninstall:
 	@rm -f $(MANUAL)/ummervia.3 $(PAGES:%=$(MANUAL)/%.3)
 	rm -rf $(PAPERS)
 
-# A million random calls, or CALLS, from a new seed, or SEED. The first difference ends it and says how to repeat it.
-soak: setup target/c/random
-	$(RUN) target/c/random $(or $(SEED),0x$$(od -An -N8 -tx8 /dev/urandom | tr -d ' ')) $(or $(CALLS),1000000)
+# A million random calls, or CALLS, from a new seed, or SEED; then stretches counted on 20,000 sheets, or SHEETS. The first difference of a call ends
+# it and says how to repeat it.
+soak: setup target/c/random target/c/thinned
+	@seed=$(or $(SEED),0x$$(od -An -N8 -tx8 /dev/urandom | tr -d ' ')); \
+	$(RUN) target/c/random $$seed $(or $(CALLS),1000000); \
+	$(RUN) target/c/thinned $$seed $(or $(SHEETS),20000)
 
 # Instructions, counted: the same table on every machine with these compilers. Beside what setup installs it needs qemu
 # and the machine's own gcc, for the plugin that counts.
@@ -151,10 +155,11 @@ target/c/tour: tests/tour.c $(REFERENCE)
 target/c/vectors target/c/random target/c/picture target/c/bench: $(REFERENCE)
 target/c/vectors target/c/random: tests/call.c tests/call.h
 target/c/random: $(wildcard tests/random-*.c) tests/random.h tests/lent.c tests/lent.h
-target/c/random target/c/home: tests/chance.c tests/chance.h
+target/c/random target/c/home target/c/thinned: tests/chance.c tests/chance.h
+target/c/home target/c/thinned: tests/small.c tests/small.h
 target/c/calls: tests/refusals.c tests/sheets.c tests/sheets.h
-target/c/calls target/c/values target/c/nan: tests/check.c tests/check.h
-target/c/calls target/c/random: tests/fields.c tests/fields.h
+target/c/calls target/c/values target/c/home target/c/thinned target/c/nan: tests/check.c tests/check.h
+target/c/calls target/c/random target/c/thinned: tests/fields.c tests/fields.h
 
 $(ARCHIVE): $(SOURCES)
 	rt staticlib ummervia

@@ -9,13 +9,21 @@ const char *subject = "";
 
 static unsigned long checks, failures;
 
-void check(bool holds, const char *condition, const char *file, int line)
+void check_sheet(unsigned long number)
+{
+    static char which[32];
+    snprintf(which, sizeof which, "sheet %lu", number);
+    subject = which;
+}
+
+bool check(bool holds, const char *condition, const char *file, int line)
 {
     checks++;
     if (holds)
-        return;
+        return true;
     if (failures++ < MOST_SHOWN)
         printf("%s:%d: not so: %s%s%s\n", file, line, condition, *subject ? ", of: " : "", subject);
+    return false;
 }
 
 int report(const char *test)

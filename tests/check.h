@@ -6,10 +6,14 @@
 
 #define CHECK(condition) check((condition), #condition, __FILE__, __LINE__)
 
-void check(bool holds, const char *condition, const char *file, int line);
+/* Answers whether it holds. */
+bool check(bool holds, const char *condition, const char *file, int line);
 
 /* What is under test, printed with a failure. */
 extern const char *subject;
+
+/* That is the sheet of this number. */
+void check_sheet(unsigned long number);
 
 /* Prints the counts. Answers what main returns. */
 int report(const char *test);

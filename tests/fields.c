@@ -15,6 +15,15 @@ bool in_use(const uint16_t *fields, unsigned place)
     return t < fields[UMV_FIELD_SLOTS] && p < fields[UMV_FIELD_PHCHS + t];
 }
 
+void fill_slots(uint16_t *fields, uint16_t capacity)
+{
+    fields[UMV_FIELD_SLOTS] = 15;
+    for (unsigned t = 0; t < 15; t++)
+        fields[UMV_FIELD_PHCHS + t] = 16;
+    for (unsigned u = 0; u < 240; u++)
+        fields[UMV_FIELD_CAPACITIES + u] = capacity;
+}
+
 static void put(uint8_t *sheet, size_t *bits, unsigned value, unsigned width)
 {
     while (width-- > 0) {

@@ -4,35 +4,26 @@
  * every channel. Each value must be plus or minus the number of places that umv_name gives to its bit, and +0.0 where there
  * is none. What was heard of some bits and each link record must say the same. The same seed makes the same sheets.
  */
-#include <stdbool.h>
 #include <stdio.h>
 #include <stdlib.h>
 #include <string.h>
 
 #include "chance.h"
+#include "check.h"
+#include "small.h"
 #include "ummervia.h"
 
 enum {
-    SHEETS = 300,      /* made unless asked otherwise */
-    FRAMES = 8,        /* of the longest TTI */
-    CHANNELS = 8,      /* at most */
-    MOST_E = 240,      /* encoded bits of a channel */
-    MOST_T = MOST_E,   /* 8 divides it: fillers never pass it */
-    MOST_PLACES = 300, /* of a frame */
-    ASKED = 4,         /* bits asked for in each segment */
-    MOST_SHOWN = 20    /* differences printed */
+    SHEETS = 300, /* made unless asked otherwise */
+    FRAMES = 8,   /* of the longest TTI */
+    CHANNELS = SMALL_CHANNELS,
+    MOST_E = SMALL_E,
+    MOST_T = SMALL_E, /* 8 divides it: fillers never pass it */
+    MOST_PLACES = SMALL_PLACES,
+    ASKED = 4 /* bits asked for in each segment */
 };
 
-static unsigned long sheets_made, values, punctured, once, joined_values, heard, links, differing;
-
-#define CHECK(condition) check((condition), #condition, __LINE__)
-
-static bool check(bool holds, const char *condition, int line)
-{
-    if (!holds && differing++ < MOST_SHOWN)
-        printf("home.c:%d: sheet %lu: not so: %s\n", line, sheets_made, condition);
-    return holds;
-}
+static unsigned long values, punctured, once, joined_values, heard, links;
 
 /* ---- The sheet at work ---- */
 
@@ -50,31 +41,6 @@ static struct channel {
 } channels[CHANNELS];
 
 static unsigned long met_mode[2], met_tti[4], met_channels[CHANNELS], met_empty;
-
-static void random_channels(void)
-{
-    uint32_t count = between(1, CHANNELS), most_e = one_in(3) ? MOST_E : one_in(2) ? 60 : 12, most_rm = one_in(2) ? 256 : 8;
-    fields[UMV_FIELD_CHANNELS] = (uint16_t)count;
-    for (uint32_t i = 0; i < count; i++) {
-        fields[UMV_FIELD_TTI + i] = (uint16_t)between(0, 3);
-        fields[UMV_FIELD_E + i] = (uint16_t)(one_in(4) ? 0 : between(1, most_e));
-        fields[UMV_FIELD_RM + i] = (uint16_t)between(1, most_rm);
-    }
-    fields[UMV_FIELD_E + between(0, count - 1)] = (uint16_t)between(1, most_e); /* one at least has bits */
-}
-
-/* No more than MOST_PLACES in sum. */
-static void random_slots(void)
-{
-    static const uint16_t most[][3] = {{15, 4, 5}, {3, 2, 50}, {1, 16, 18}, {2, 1, 150}, {1, 1, 300}}; /* T, P, U */
-    const uint16_t *shape = most[between(0, 4)];
-    fields[UMV_FIELD_SLOTS] = (uint16_t)between(1, shape[0]);
-    for (uint32_t t = 0; t < fields[UMV_FIELD_SLOTS]; t++) {
-        fields[UMV_FIELD_PHCHS + t] = (uint16_t)between(1, shape[1]);
-        for (uint32_t p = 0; p < fields[UMV_FIELD_PHCHS + t]; p++)
-            fields[UMV_FIELD_CAPACITIES + 16 * t + p] = (uint16_t)between(1, shape[2]);
-    }
-}
 
 /* Whether the library's numbers are such that the buffers here hold what it will write. */
 static bool read_channels(void)
@@ -101,11 +67,7 @@ static bool read_channels(void)
 static bool random_sheet(void)
 {
     uint64_t length;
-    memset(fields, 0, sizeof fields);
-    fields[UMV_FIELD_VERSION] = 1;
-    fields[UMV_FIELD_MODE] = (uint16_t)between(0, 1);
-    random_channels();
-    random_slots();
+    draw_small(fields);
     if (!CHECK(umv_sheet_length(fields, UMV_FIELDS, &length) == UMV_OK && length <= UMV_SHEET_MOST))
         return false;
     sheet_len = length;
@@ -278,11 +240,13 @@ int main(int argc, char **argv)
     const uint64_t seed = argc > 1 ? strtoull(argv[1], NULL, 0) : 0x2522200480706050;
     printf("home: seed %#llx, %lu sheets\n", (unsigned long long)seed, sheets);
     begin(seed, 0);
-    while (sheets_made++ < sheets)
+    for (unsigned long k = 1; k <= sheets; k++) {
+        check_sheet(k);
         if (random_sheet() && read_channels())
             there_and_back();
+    }
     printf("home: %lu values checked: %lu punctured, %lu sent once, %lu joined; %lu bits asked for, %lu link records\n",
            values, punctured, once, joined_values, heard, links);
-    printf("home: %lu differ, %u kinds not met\n", differing, not_met());
-    return differing != 0 || not_met() != 0;
+    printf("home: %u kinds not met\n", not_met());
+    return report("home") != 0 || not_met() != 0;
 }

@@ -33,14 +33,10 @@ static void random_slots(uint32_t most_slots, uint32_t most_capacity)
     }
 }
 
-/* 15 slots of 16 PhCHs with 250 bits each: just 60,000 in sum, or one more. */
+/* Just 60,000 bits in sum, or one more. */
 static void fullest_slots(bool too_many)
 {
-    fields[UMV_FIELD_SLOTS] = 15;
-    for (uint32_t t = 0; t < 15; t++)
-        fields[UMV_FIELD_PHCHS + t] = 16;
-    for (uint32_t u = 0; u < 240; u++)
-        fields[UMV_FIELD_CAPACITIES + u] = 250;
+    fill_slots(fields, 250);
     if (too_many)
         fields[UMV_FIELD_CAPACITIES + between(0, 239)]++;
 }

@@ -113,15 +113,11 @@ void make_longest(uint16_t *fields, uint16_t capacity)
     memset(fields, 0, UMV_FIELDS * sizeof *fields);
     fields[UMV_FIELD_VERSION] = 1;
     fields[UMV_FIELD_CHANNELS] = 8;
-    fields[UMV_FIELD_SLOTS] = 15;
     for (unsigned i = 0; i < 8; i++) {
         fields[UMV_FIELD_E + i] = 7500;
         fields[UMV_FIELD_RM + i] = 256;
     }
-    for (unsigned t = 0; t < 15; t++)
-        fields[UMV_FIELD_PHCHS + t] = 16;
-    for (unsigned u = 0; u < 240; u++)
-        fields[UMV_FIELD_CAPACITIES + u] = capacity;
+    fill_slots(fields, capacity);
 }
 
 /* ---- What is expected of fields and of sheets ---- */
