@@ -4,3 +4,4 @@ pub mod Answers
 pub mod Table
 pub mod Calls
 pub mod Words
+pub mod Thinned
