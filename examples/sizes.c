@@ -1,5 +1,6 @@
 /*
- * sizes [FILE]: prints what the format sheet in FILE asks of a frame; without FILE, of the example of document 01.
+ * sizes [FILE]: prints what the format sheet in FILE asks of a frame, and how far punctured bits lie apart, or how often bits
+ * are sent; without FILE, of the example of document 01.
  *
  *     cc sizes.c $(pkg-config --cflags --libs ummervia) -o sizes && ./sizes example.sheet
  */
@@ -8,6 +9,15 @@
 
 #include "ummervia.h"
 
+/* x / y, rounded down or up: how far punctured bits lie apart, and how often bits are sent. */
+static void print_rounded(const char *before, uint64_t x, uint64_t y, const char *after)
+{
+    printf("%s %" PRIu64, before, x / y);
+    if (x % y != 0)
+        printf(" or %" PRIu64, x / y + 1);
+    printf(" %s\n", after);
+}
+
 static void print_channel(const uint8_t *sheet, size_t sheet_len, uint32_t trch)
 {
     uint64_t f, e, n, v;
@@ -15,6 +25,10 @@ static void print_channel(const uint8_t *sheet, size_t sheet_len, uint32_t trch)
         return;
     printf("channel %" PRIu32 ": %" PRIu64 " encoded bits in %" PRIu64 " frame(s), ", trch, e, f);
     printf("%" PRIu64 " of them in each frame, sent as %" PRIu64 "\n", n, v);
+    if (v + 1 < n) /* two at least are punctured */
+        print_rounded("    punctured bits lie", n, n - v, "apart");
+    if (v > n)
+        print_rounded("    each bit is sent", v, n, "times");
 }
 
 int main(int argc, char **argv)

@@ -30,7 +30,7 @@
 extern "C" {
 #endif
 
-#define UMV_RELEASE "1.0.1" /* of this header and its archive */
+#define UMV_RELEASE "1.0.2" /* of this header and its archive */
 
 /* The numbers a call answers. Each call below says which of them it can give. */
 enum umv_number {
@@ -114,7 +114,9 @@ uint32_t umv_sizes(const uint8_t *sheet, size_t sheet_len, uint64_t *channels, u
                    uint64_t *capacity, uint64_t *joined);
 
 /*
- * The numbers of one transport channel.
+ * The numbers of one transport channel. Puncturing and repetition are even: of any L neighbouring bits of a frame's segment
+ * L * (N - V) / N are punctured where V is below N, and L * (V - N) / N further copies are sent where V is above it, rounded
+ * down or up. So from one punctured bit to the next it is N / (N - V), and each bit is sent V / N times, rounded down or up.
  * trch  the channel, counted from 1, at most I
  * f     answer: F, frames of its TTI: 1, 2, 4 or 8
  * e     answer: E, encoded bits of one TTI

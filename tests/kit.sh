@@ -30,9 +30,12 @@ told() {
     echo "status $status"
 }
 
+# HEX: the sheet of these bytes, in a file.
+sheet() { printf '%b' "$(sed 's/ //g; s/../\\x&/g' <<<"$1")" >"$room/sheet"; }
+
 # HEX FRAME SLOT PHCH PLACE STATUS TEXT: what whereis says of a place of the frame that the sheet HEX describes.
 whereis() {
-    printf '%b' "$(sed 's/ //g; s/../\\x&/g' <<<"$1")" >"$room/sheet"
+    sheet "$1"
     same "whereis, sheet $1, frame $2, $3/$4/$5" "$7"$'\n'"status $6" \
         "$(told "${run[@]}" "$room/examples/whereis" "$room/sheet" "$2" "$3" "$4" "$5")"
 }
@@ -106,17 +109,26 @@ make -s -C "$room/examples" CC="$cc" CFLAGS='-O2 -std=c11 -Wall -Wextra -pedanti
 sed '1,/^\.EX/d; /^\.EE/,$d; s/\\e/\\/g' "$page" >"$room/examples/manual.c"
 make -s -C "$room/examples" CC="$cc" LDFLAGS=-static manual
 example='10 10 00 06 00 00 04'
-# Document 01: contents 1,0,1,1,0,0 give the frame 0,0,1,0; the channel has E 6, N 6, V 4.
+# Document 01: contents 1,0,1,1,0,0 give the frame 0,0,1,0; the channel has E 6, N 6, V 4, and bits 1 and 4 are dropped.
 same "the manual's example" $'0\n0\n1\n0\nstatus 0' "$(told "${run[@]}" "$room/examples/manual")"
 sizes="a frame of 4 bits in 1 slot(s)
 contents: 6 bytes, one a bit; received: 6 floats
 channel 1: 6 encoded bits in 1 frame(s), 6 of them in each frame, sent as 4
+    punctured bits lie 3 apart
 status 0"
 same 'sizes' "$sizes" "$(told "${run[@]}" "$room/examples/sizes" "$room/examples/example.sheet")"
 rm "$room/examples/sizes"
 make -s -C "$room/examples" CC="$cc" sizes
 same 'sizes, linked as the compiler does by itself' "$sizes" \
     "$(told "${run[@]}" "$room/examples/sizes" "$room/examples/example.sheet")"
+
+# Document 01: N=6, D=8: sent are 1,1,2,3,4,4,5,6.
+sheet '10 10 00 06 00 00 08'
+same 'sizes, repeated' "a frame of 8 bits in 1 slot(s)
+contents: 6 bytes, one a bit; received: 6 floats
+channel 1: 6 encoded bits in 1 frame(s), 6 of them in each frame, sent as 8
+    each bit is sent 1 or 2 times
+status 0" "$(told "${run[@]}" "$room/examples/sizes" "$room/sheet")"
 
 # Document 01: the places of its example hold bits 2, 6, 3, 5.
 place=0
