@@ -1,6 +1,6 @@
 -- Laws of a table of n values, and of the one that is filled up to a place.
 use mathlib.Core.Path.{_≡_, refl, sym, ap, _∙_, subst}
-use mathlib.Core.Bool.{Bool, cond}
+use mathlib.Core.Bool.{Bool, true, false, cond}
 use mathlib.Core.List.{List, _∷_}
 use Prim.Native.Nat.{ℕ, zero, suc, _+_, _≤_, _<_}
 use native.Mathlib.Nat.{add-zero, zero-add, add-suc, suc-add, le-of-suc-le-suc}
@@ -8,7 +8,8 @@ use native.Mathlib.Omega.{arith}
 use native.Mathlib.Decide.{decLt, ℕ-discrete}
 use borrow.Author.Tests.{lt-ltb, le-ltb}
 use lib.Arith.{lt-of-le-ne}
-use lib.ListN.{length, getD, set, replicate, length-set}
+use lib.Dec.{ltb}
+use lib.ListN.{length, getD, set, replicate, length-set, length-replicate}
 use lib.Seq.{ext-getD, getD-set-same, getD-set-other}
 use Rattle.laws.specs.Tables.{table, upTo}
 
@@ -57,12 +58,22 @@ zeros-at zero i = refl
 zeros-at (suc n) zero = refl
 zeros-at (suc n) (suc i) = zeros-at n i
 
+pub table-zeros : (n : ℕ) → table {A = ℕ} (λ i. 0) 0 n ≡ replicate n 0
+table-zeros n = sym (filled-all (λ i. 0) (replicate n 0) n (length-replicate n 0) (λ j l. zeros-at n j))
+
 -- upTo, below its count and past it
 pub upTo-below : (n i a : ℕ) → i < n → upTo n i a ≡ a
 upTo-below n i a h = ap (λ (b : Bool). cond b a 0) (lt-ltb i n h)
 
 pub upTo-past : (n i a : ℕ) → n ≤ i → upTo n i a ≡ 0
 upTo-past n i a h = ap (λ (b : Bool). cond b a 0) (le-ltb i n h)
+
+pub upTo-zero : (n i : ℕ) {a : ℕ} → a ≡ 0 → upTo n i a ≡ 0
+upTo-zero n i {a} e = ap (upTo n i) e ∙ by (ltb i n)
+  where
+    by : (b : Bool) → _≡_ {A = ℕ} (cond b 0 0) 0
+    by true = refl
+    by false = refl
 
 pub upTo-same : (n m i a b : ℕ) → n ≡ m → (i < n → a ≡ b) → upTo n i a ≡ upTo m i b
 upTo-same n m i a b e h = side (decLt i n)
@@ -74,6 +85,10 @@ upTo-same n m i a b e h = side (decLt i n)
 -- an entry of a table that is filled up to n
 pub filled-at : (f : ℕ → ℕ) (n m i : ℕ) → i < m → i < n → getD (table (λ j. upTo n j (f j)) 0 m) i 0 ≡ f i
 filled-at f n m i l h = table-at (λ j. upTo n j (f j)) m i l ∙ upTo-below n i (f i) h
+
+-- a table that is filled whole
+pub filled-whole : (f : ℕ → ℕ) (m k : ℕ) → k ≡ m → table (λ j. upTo k j (f j)) 0 m ≡ table f 0 m
+filled-whole f m k e = table-same (λ j. upTo k j (f j)) f m (λ j l. upTo-below k j (f j) (omega arith))
 
 -- one more entry of a table that is filled up to k
 module _ (f : ℕ → ℕ) (m k : ℕ) (h : k < m) where
