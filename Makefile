@@ -7,11 +7,12 @@ SHELL := /bin/bash
 .DEFAULT_GOAL := help
 .NOTPARALLEL: # rt works with all processors by itself, and rt ci removes target/
 
-# Outside vectors, bigger than the repository's own; where the file is not there it is passed over.
-VECTORS ?= ../shared/vectors/base.txt
+# Outside vectors, bigger than the repository's own, of the calls and of the lister; where a file is not there it is passed over.
+VECTORS ?= ../shared/vectors/after-C-11.txt
+LISTINGS ?= ../shared/vectors/lister-after-C-11.txt
 
 # The repository's own vectors that the library runs; the reference runs all.
-CASES := tests/cases/sheet.txt tests/cases/frame.txt tests/cases/home.txt
+CASES := tests/cases/sheet.txt tests/cases/frame.txt tests/cases/home.txt tests/cases/uplink.txt
 
 # rt compiles for x86-64 on every machine: elsewhere such programs are linked by a cross compiler and run by qemu.
 ifeq ($(shell uname -m),x86_64)
@@ -48,19 +49,20 @@ test: setup
 	@$(MAKE) --no-print-directory ctest
 	@tail -n 1 target/ci.log | grep -Ex '[0-9]+ passed, 0 failed'
 
-ctest: target/c/calls target/c/values target/c/vectors target/c/random target/c/home target/c/thinned target/c/nan target/c/picture \
-	target/c/tour target/c/sizes $(LISTER) $(PICTURE)
+ctest: target/c/calls target/c/values target/c/vectors target/c/loop target/c/random target/c/home target/c/thinned target/c/nan \
+	target/c/picture target/c/tour target/c/sizes $(LISTER) $(PICTURE)
 	$(RUN) target/c/calls
 	$(RUN) target/c/values
 	@run() { if [ -f "$$2" ]; then echo "$(RUN) target/c/vectors $$*"; $(RUN) target/c/vectors "$$@"; \
 	else echo "vectors: $$2 is not there: skipped"; fi; }; \
 	for file in tests/cases/*.txt '$(VECTORS)'; do run reference "$$file"; done; \
 	for file in $(CASES) '$(VECTORS)'; do run library "$$file"; done
+	$(RUN) target/c/loop
 	$(RUN) target/c/random
 	$(RUN) target/c/home
 	$(RUN) target/c/thinned
 	$(RUN) target/c/nan
-	tests/lister.sh $(RUN) $(LISTER)
+	tests/lister.sh '$(LISTINGS)' $(RUN) $(LISTER)
 	tests/picture.sh $(PICTURE) target/c/picture $(RUN)
 	$(RUN) target/c/tour > target/c/tour.txt
 	@cmp -s target/c/tour.txt crates/tour/stdout || diff -au target/c/tour.txt crates/tour/stdout
@@ -152,14 +154,14 @@ target/c/tour: tests/tour.c $(REFERENCE)
 	$(CC) $(CFLAGS) $(filter %.c,$^) -o $@
 
 # What a program has beside the file of its name.
-target/c/vectors target/c/random target/c/picture target/c/bench: $(REFERENCE)
+target/c/vectors target/c/loop target/c/random target/c/picture target/c/bench: $(REFERENCE)
 target/c/vectors target/c/random: tests/call.c tests/call.h
 target/c/random: $(wildcard tests/random-*.c) tests/random.h tests/lent.c tests/lent.h
 target/c/random target/c/home target/c/thinned: tests/chance.c tests/chance.h
 target/c/home target/c/thinned: tests/small.c tests/small.h
 target/c/calls: tests/refusals.c tests/sheets.c tests/sheets.h
-target/c/calls target/c/values target/c/home target/c/thinned target/c/nan: tests/check.c tests/check.h
-target/c/calls target/c/random target/c/thinned: tests/fields.c tests/fields.h
+target/c/calls target/c/values target/c/loop target/c/home target/c/thinned target/c/nan: tests/check.c tests/check.h
+target/c/calls target/c/loop target/c/random target/c/thinned: tests/fields.c tests/fields.h
 
 $(ARCHIVE): $(SOURCES)
 	rt staticlib ummervia

@@ -34,7 +34,7 @@ static void print_channel(const uint8_t *sheet, size_t sheet_len, uint32_t trch)
 int main(int argc, char **argv)
 {
     /* One channel of 6 bits in one frame, one slot with one physical channel of 4 bits. */
-    uint8_t sheet[UMV_SHEET_MOST + 1] = {0x10, 0x10, 0x00, 0x06, 0x00, 0x00, 0x04};
+    uint8_t sheet[UMV_SHEET_FORM_MOST + 1] = {0x10, 0x10, 0x00, 0x06, 0x00, 0x00, 0x04};
     size_t sheet_len = 7;
 
     if (argc > 1) {
@@ -43,7 +43,7 @@ int main(int argc, char **argv)
             perror(argv[1]);
             return 2;
         }
-        sheet_len = fread(sheet, 1, sizeof sheet, file); /* a byte more than any sheet has, so that more is seen */
+        sheet_len = fread(sheet, 1, sizeof sheet, file); /* a byte more than has the form of a sheet, so that more is seen */
         fclose(file);
     }
 

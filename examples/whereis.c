@@ -22,6 +22,7 @@ static const char *in_words(uint32_t number)
     case UMV_NO_SLOT: return "the sheet has no slot";
     case UMV_FORM: return "the sheet's length is not what its fields need, or a spare or padding bit is set";
     case UMV_NO_CAPACITY: return "a capacity is 0";
+    case UMV_UPLINK_CODES: return "an uplink slot has more than two codes, or a logarithm over 4";
     case UMV_MUCH_CONTENT: return "the channels' equalised sizes sum up to more than 60,000 bits";
     case UMV_MUCH_CAPACITY: return "the capacities sum up to more than 60,000 bits";
     case UMV_NO_CONTENT: return "every channel is empty";
@@ -62,7 +63,7 @@ static bool read_sheet(const char *name, uint8_t *sheet, size_t room, size_t *sh
 
 int main(int argc, char **argv)
 {
-    uint8_t sheet[UMV_SHEET_MOST + 1]; /* a byte more than any sheet has, so that a longer file is refused */
+    uint8_t sheet[UMV_SHEET_FORM_MOST + 1]; /* a byte more than has the form of a sheet, so that a longer file is refused */
     size_t sheet_len;
     uint32_t frame, slot, phch, place;
     if (argc != 6 || !read_number(argv[2], &frame) || !read_number(argv[3], &slot) || !read_number(argv[4], &phch) ||

@@ -3,9 +3,10 @@
  *
  * What holds for every call:
  *
- * - It returns a number: UMV_OK (0), or why it was refused (enum umv_number). Where several reasons hold, the lowest
- *   number is given; but umv_sheet_length and umv_sheet_write give UMV_LENGTH (11) before all else where fields_len is not
- *   UMV_FIELDS, since there are then no fields to ask anything else of.
+ * - It returns a number: UMV_OK (0), or why it was refused (enum umv_number). Where several reasons hold, the first in the
+ *   order of the table is given, which is the order of enum umv_number and not that of the numbers: 13 stands between 5 and
+ *   6. But umv_sheet_length and umv_sheet_write give UMV_LENGTH (11) before all else where fields_len is not UMV_FIELDS, since
+ *   there are then no fields to ask anything else of.
  * - A slice is a pointer to its first value and a count of VALUES, not of bytes. Of an empty slice (count 0) the pointer
  *   is not followed and may have any value, null too.
  * - Every other pointer must be aligned for its type: 2 bytes for uint16_t, 4 for float, 8 for uint64_t. No call asks for
@@ -19,6 +20,17 @@
  *   refused call leave some as they were). That its sign and payload stay too is tested and not proved.
  * - The pointers to single values at the end of a parameter list are answers: they must not be null and are always
  *   written, on a refusal with zeros; only UMV_CONTENT (12) gives in `at` the index of the first bad value, from 0.
+ *
+ * What a caller of release 1 has to change for release 2, which knows uplink sheets; a downlink sheet keeps its bytes and its
+ * frames:
+ *
+ * - The fields of a sheet are 524 numbers, where they were 283; an array of 283 is refused with 11.
+ * - UMV_FIELD_UPLINK has the fifth place, so that every place from UMV_FIELD_TTI on is one further, and the logarithms stand at
+ *   the end, from UMV_FIELD_LOGARITHMS on. Who used the names compiles again, with 0 in the uplink field for a sheet as it was.
+ * - UMV_UPLINK_CODES (13) is new. It goes before 6, 7 and 8, and every call that takes a sheet or its fields can give it.
+ * - The first of the four spare bits is the uplink bit: where it is set, a sheet that drew 4 may be accepted.
+ * - A buffer for a sheet that comes from a file holds UMV_SHEET_FORM_MOST + 1 bytes, 485, where it held 395; in a shorter one a
+ *   long sheet that is refused with 5 or 13 is cut off, and then refused with 4.
  */
 #ifndef UMMERVIA_H
 #define UMMERVIA_H
@@ -30,17 +42,18 @@
 extern "C" {
 #endif
 
-#define UMV_RELEASE "1.0.2" /* of this header and its archive */
+#define UMV_RELEASE "2.0.0" /* of this header and its archive */
 
-/* The numbers a call answers. Each call below says which of them it can give. */
+/* The numbers a call answers, in the order in which they are asked. Each call below says which of them it can give. */
 enum umv_number {
     UMV_OK = 0,             /* accepted */
     UMV_SHORT = 1,          /* the sheet is shorter than 2 bytes */
     UMV_VERSION = 2,        /* its version is not 1 */
     UMV_NO_SLOT = 3,        /* it has no slot (T = 0) */
     UMV_FORM = 4,           /* its length is not what its fields need, or a spare or padding bit is set; when a sheet is
-                               written from fields: a field is outside its range, and neither 2, 3 nor 5 names it */
+                               written from fields: a field is outside its range, and neither 2, 3, 5 nor 13 names it */
     UMV_NO_CAPACITY = 5,    /* a capacity is 0 */
+    UMV_UPLINK_CODES = 13,  /* an uplink slot has more than two codes, or a logarithm over 4, however large */
     UMV_MUCH_CONTENT = 6,   /* the equalised sizes T_i of all channels sum up to more than 60,000 bits */
     UMV_MUCH_CAPACITY = 7,  /* the capacities of all slots sum up to more than 60,000 bits */
     UMV_NO_CONTENT = 8,     /* E is 0 for every channel */
@@ -53,34 +66,45 @@ enum umv_number {
 
 /*
  * The fields of a sheet as UMV_FIELDS numbers of 16 bits. These are their places, counted from 0; `channel`, `slot` and
- * `phch` below are counted from 0 too. A place that the counts I, T and P leave unused holds no field: reading leaves 0
- * there, writing does not look at it.
+ * `phch` below are counted from 0 too. A place that the counts I, T and P leave unused, or the logarithm of a downlink sheet,
+ * holds no field: reading leaves 0 there, writing does not look at it.
  */
 enum umv_field {
     UMV_FIELD_VERSION = 0,     /* 1 */
     UMV_FIELD_MODE = 1,        /* second interleaving: 0 over the frame, 1 slot by slot */
     UMV_FIELD_CHANNELS = 2,    /* I, the number of transport channels, 1 to 8 */
     UMV_FIELD_SLOTS = 3,       /* T, the number of slots, 1 to 15 */
-    UMV_FIELD_TTI = 4,         /* + channel: 0, 1, 2, 3 for 10, 20, 40, 80 ms, which are F = 1, 2, 4, 8 frames */
-    UMV_FIELD_E = 12,          /* + channel: E, encoded bits of one TTI, 0 to 16,383 */
-    UMV_FIELD_RM = 20,         /* + channel: RM, the rate matching attribute, 1 to 256 */
-    UMV_FIELD_PHCHS = 28,      /* + slot: P, physical channels of the slot, 1 to 16 */
-    UMV_FIELD_CAPACITIES = 43  /* + 16 * slot + phch: U, capacity of that PhCH in bits, 1 to 4,095 */
+    UMV_FIELD_UPLINK = 4,      /* 0 downlink, 1 uplink */
+    UMV_FIELD_TTI = 5,         /* + channel: 0, 1, 2, 3 for 10, 20, 40, 80 ms, which are F = 1, 2, 4, 8 frames */
+    UMV_FIELD_E = 13,          /* + channel: E, encoded bits of one TTI, 0 to 16,383 */
+    UMV_FIELD_RM = 21,         /* + channel: RM, the rate matching attribute, 1 to 256 */
+    UMV_FIELD_PHCHS = 29,      /* + slot: P, physical channels (codes) of the slot, 1 to 16, in an uplink sheet 1 or 2 */
+    UMV_FIELD_CAPACITIES = 44, /* + 16 * slot + phch: U, capacity of that PhCH in bits, 1 to 4,095 */
+    UMV_FIELD_LOGARITHMS = 284 /* + 16 * slot + phch, in an uplink sheet: the base-two logarithm of that PhCH's spreading
+                                  factor, 0 to 4 for factors 1 to 16 */
 };
 
-#define UMV_FIELDS 283      /* values in the fields of a sheet */
-#define UMV_SHEET_MOST 394  /* bytes of the longest sheet */
+#define UMV_FIELDS 524           /* values in the fields of a sheet */
+#define UMV_SHEET_MOST 394       /* bytes of the longest sheet that is accepted */
+#define UMV_SHEET_FORM_MOST 484  /* bytes of the longest that has a sheet's form, which is refused with 5 or 13; a buffer for a
+                                    sheet from outside holds one more, so that a longer one is seen */
 
 /*
  * In every call but umv_sheet_write `sheet` is read only: sheet_len bytes, whatever they are; what is no sheet is refused with
- * one of 1 to 8. A bit is a byte of 0 or 1 wherever bits are lent or written.
+ * one of the sheet's own numbers: 1, 2, 3, 4, 5, 13, 6, 7, 8, in this order. A bit is a byte of 0 or 1 wherever bits are lent or
+ * written.
+ *
+ * The bits of a slot go to its PhCHs in turn, full ones passed over (step 9). In downlink each takes one bit at its turn, and so
+ * does the single code of an uplink slot. Of two uplink codes the one with the smaller spreading factor takes as many bits at
+ * its turn as the greater factor divided by the smaller gives, 1 to 16, and the other takes one; a code that fills up in mid-run
+ * gives up its turn.
  */
 
 /*
  * Reads a sheet into its fields.
  * fields  fields_len values, overwritten when the call is accepted; fields_len must be UMV_FIELDS
  * at      answer: the values written, UMV_FIELDS
- * Numbers: 1 to 8 of the sheet; then 11 if fields_len is not UMV_FIELDS.
+ * Numbers: the sheet's own; then 11 if fields_len is not UMV_FIELDS.
  */
 uint32_t umv_sheet_read(const uint8_t *sheet, size_t sheet_len, uint16_t *fields, size_t fields_len, uint64_t *at);
 
@@ -88,7 +112,7 @@ uint32_t umv_sheet_read(const uint8_t *sheet, size_t sheet_len, uint16_t *fields
  * The length of the sheet that umv_sheet_write makes of these fields.
  * fields  fields_len values, only read; fields_len must be UMV_FIELDS
  * at      answer: the length in bytes, at most UMV_SHEET_MOST
- * Numbers: 11 if fields_len is not UMV_FIELDS; then 2 to 8 of the fields.
+ * Numbers: 11 if fields_len is not UMV_FIELDS; then the sheet's own but 1, of the fields.
  */
 uint32_t umv_sheet_length(const uint16_t *fields, size_t fields_len, uint64_t *at);
 
@@ -97,7 +121,8 @@ uint32_t umv_sheet_length(const uint16_t *fields, size_t fields_len, uint64_t *a
  * fields  fields_len values, only read; fields_len must be UMV_FIELDS
  * sheet   sheet_len bytes, overwritten when the call is accepted; sheet_len must be what umv_sheet_length answers
  * at      answer: the bytes written, sheet_len
- * Numbers: 11 if fields_len is not UMV_FIELDS; then 2 to 8 of the fields; then 11 if sheet_len is not the length needed.
+ * Numbers: 11 if fields_len is not UMV_FIELDS; then the sheet's own but 1, of the fields; then 11 if sheet_len is not the
+ * length needed.
  */
 uint32_t umv_sheet_write(const uint16_t *fields, size_t fields_len, uint8_t *sheet, size_t sheet_len, uint64_t *at);
 
@@ -108,7 +133,7 @@ uint32_t umv_sheet_write(const uint16_t *fields, size_t fields_len, uint8_t *she
  * contents  answer: the sum of E over all channels, encoded bits of all current TTIs
  * capacity  answer: D, the sum of all capacities, the bits of one frame
  * joined    answer: the sum of the equalised sizes T_i = F * N over all channels, in bits
- * Numbers: 1 to 8 of the sheet.
+ * Numbers: the sheet's own.
  */
 uint32_t umv_sizes(const uint8_t *sheet, size_t sheet_len, uint64_t *channels, uint64_t *slots, uint64_t *contents,
                    uint64_t *capacity, uint64_t *joined);
@@ -122,7 +147,7 @@ uint32_t umv_sizes(const uint8_t *sheet, size_t sheet_len, uint64_t *channels, u
  * e     answer: E, encoded bits of one TTI
  * n     answer: N, bits of one of its F segments, before rate matching
  * v     answer: V, bits it has in one frame, after rate matching; the V of all channels sum up to the capacity D
- * Numbers: 1 to 8 of the sheet; then 10 if trch is 0 or over I.
+ * Numbers: the sheet's own; then 10 if trch is 0 or over I.
  */
 uint32_t umv_channel(const uint8_t *sheet, size_t sheet_len, uint32_t trch, uint64_t *f, uint64_t *e, uint64_t *n,
                      uint64_t *v);
@@ -134,7 +159,7 @@ uint32_t umv_channel(const uint8_t *sheet, size_t sheet_len, uint32_t trch, uint
  *               contents_len must be the sum of E (umv_sizes)
  * frame         frame_len bytes, overwritten when the call is accepted: slot, then PhCH, then place; frame_len must be D
  * at            answer: the bytes written, D; with 12 the index in contents of the first byte that is neither 0 nor 1
- * Numbers: 1 to 8 of the sheet; then 9, 11, 12.
+ * Numbers: the sheet's own; then 9, 11, 12.
  */
 uint32_t umv_build(const uint8_t *sheet, size_t sheet_len, uint32_t frame_number, const uint8_t *contents,
                    size_t contents_len, uint8_t *frame, size_t frame_len, uint64_t *at);
@@ -153,7 +178,7 @@ uint32_t umv_multiplex(const uint8_t *sheet, size_t sheet_len, uint32_t frame_nu
  * multiplexed   multiplexed_len bytes of 0 or 1, only read; multiplexed_len must be D
  * frame         frame_len bytes, overwritten when the call is accepted: slot, then PhCH, then place; frame_len must be D
  * at            answer: the bytes written, D; with 12 the index in multiplexed of the first byte that is neither 0 nor 1
- * Numbers: 1 to 8 of the sheet; then 11, 12.
+ * Numbers: the sheet's own; then 11, 12.
  */
 uint32_t umv_spread(const uint8_t *sheet, size_t sheet_len, const uint8_t *multiplexed, size_t multiplexed_len,
                     uint8_t *frame, size_t frame_len, uint64_t *at);
@@ -168,7 +193,7 @@ uint32_t umv_spread(const uint8_t *sheet, size_t sheet_len, const uint8_t *multi
  * trch          answer: the transport channel, counted from 1
  * bit           answer: the bit's number in the channel's TTI before first interleaving, counted from 1; above E it is a filler
  * copy          answer: which copy of the bit, counted from 0
- * Numbers: 1 to 8 of the sheet; then 9; then 10 if there is no such slot, PhCH or place.
+ * Numbers: the sheet's own; then 9; then 10 if there is no such slot, PhCH or place.
  */
 uint32_t umv_name(const uint8_t *sheet, size_t sheet_len, uint32_t frame_number, uint32_t slot, uint32_t phch,
                   uint32_t place, uint64_t *trch, uint64_t *bit, uint64_t *copy);
@@ -179,7 +204,7 @@ uint32_t umv_name(const uint8_t *sheet, size_t sheet_len, uint32_t frame_number,
  * multiplexed_len  the values of the multiplexed frame; it must be D
  * start            answer: the index of the channel's first value, from 0
  * length           answer: how many values it has, V; 0 for an empty channel
- * Numbers: 1 to 8 of the sheet; then 10 if trch is 0 or over I; then 11.
+ * Numbers: the sheet's own; then 10 if trch is 0 or over I; then 11.
  */
 uint32_t umv_part(const uint8_t *sheet, size_t sheet_len, uint32_t trch, uint64_t multiplexed_len, uint64_t *start,
                   uint64_t *length);
@@ -195,7 +220,7 @@ uint32_t umv_part(const uint8_t *sheet, size_t sheet_len, uint32_t trch, uint64_
  * frame         frame_len soft values, only read, in the frame's order; frame_len must be D
  * multiplexed   multiplexed_len floats, overwritten when the call is accepted; multiplexed_len must be D
  * at            answer: the values written, D; with 12 the index in frame of the first value out of range
- * Numbers: 1 to 8 of the sheet; then 11, 12.
+ * Numbers: the sheet's own; then 11, 12.
  */
 uint32_t umv_gather(const uint8_t *sheet, size_t sheet_len, const float *frame, size_t frame_len, float *multiplexed,
                     size_t multiplexed_len, uint64_t *at);
@@ -210,7 +235,7 @@ uint32_t umv_gather(const uint8_t *sheet, size_t sheet_len, const float *frame, 
  *               values, then segment 1 and so on; joined_len must be the sum of all T_i (umv_sizes). A new TTI needs no
  *               clearing, since its F frames write all of the channel's values
  * at            answer: the values written, the sum of N; with 12 the index in frame of the first value out of range
- * Numbers: 1 to 8 of the sheet; then 9, 11, 12.
+ * Numbers: the sheet's own; then 9, 11, 12.
  */
 uint32_t umv_take_back(const uint8_t *sheet, size_t sheet_len, uint32_t frame_number, const float *frame,
                        size_t frame_len, float *joined, size_t joined_len, uint64_t *at);
@@ -222,7 +247,7 @@ uint32_t umv_take_back(const uint8_t *sheet, size_t sheet_len, uint32_t frame_nu
  * joined        joined_len floats, only read: the buffer of umv_take_back; joined_len must be the sum of all T_i
  * coded         coded_len floats, overwritten when the call is accepted; coded_len must be E of the channel
  * at            answer: the values written, E
- * Numbers: 1 to 8 of the sheet; then 10 if trch is 0 or over I; then 11.
+ * Numbers: the sheet's own; then 10 if trch is 0 or over I; then 11.
  */
 uint32_t umv_finish(const uint8_t *sheet, size_t sheet_len, uint32_t trch, const float *joined, size_t joined_len,
                     float *coded, size_t coded_len, uint64_t *at);
@@ -237,7 +262,7 @@ uint32_t umv_finish(const uint8_t *sheet, size_t sheet_len, uint32_t trch, const
  * value         answer: the value, the joined value of several copies, or +0.0 where nothing was heard
  * copies        answer: how many copies were sent; 0 says that the bit was punctured
  * The other parameters are those of umv_take_back.
- * Numbers: 1 to 8 of the sheet; then 9; then 10 if there is no such channel or bit; then 11, 12.
+ * Numbers: the sheet's own; then 9; then 10 if there is no such channel or bit; then 11, 12.
  */
 uint32_t umv_heard(const uint8_t *sheet, size_t sheet_len, uint32_t frame_number, const float *frame, size_t frame_len,
                    uint32_t trch, uint32_t bit, uint64_t *at, float *value, uint64_t *copies);
@@ -250,7 +275,7 @@ uint32_t umv_heard(const uint8_t *sheet, size_t sheet_len, uint32_t frame_number
  * greatest      answer: the greatest magnitude; +0.0 if no bit was heard
  * punctured     answer: how many of the segment's N bits were punctured, fillers among them
  * The other parameters are those of umv_take_back.
- * Numbers: 1 to 8 of the sheet; then 9; then 10 if trch is 0 or over I; then 11, 12.
+ * Numbers: the sheet's own; then 9; then 10 if trch is 0 or over I; then 11, 12.
  */
 uint32_t umv_link(const uint8_t *sheet, size_t sheet_len, uint32_t frame_number, const float *frame, size_t frame_len,
                   uint32_t trch, uint64_t *at, float *least, float *greatest, uint64_t *punctured);

@@ -87,10 +87,10 @@ RUN(link)
     return by->link(SLICE(0), WHOLE(0), SLICE(1), WHOLE(1), ANSWER(0), SOFT(1), SOFT(2), ANSWER(3));
 }
 
-/* The numbers 0 to 8, of a sheet; 0 and 2 to 8, of fields; 0 to 9, of a sheet and a frame number; 10; 11; 11 and 12. */
-#define OF_SHEET 0x1ffu
-#define OF_FIELDS 0x1fdu
-#define OF_FRAME 0x3ffu
+/* The numbers 0 to 8 and 13, of a sheet; the same but 1, of fields; with 9, of a sheet and a frame number; 10; 11; 11 and 12. */
+#define OF_SHEET (0x1ffu | 1u << UMV_UPLINK_CODES)
+#define OF_FIELDS (OF_SHEET & ~(1u << UMV_SHORT))
+#define OF_FRAME (OF_SHEET | 1u << UMV_FRAME_NUMBER)
 #define ABSENT (1u << UMV_ABSENT)
 #define LENGTH (1u << UMV_LENGTH)
 #define CONTENT (LENGTH | 1u << UMV_CONTENT)

@@ -16,7 +16,7 @@ enum {
     MOST_SLICES = 3,     /* lent to one call */
     MOST_WHOLE = 4,      /* numbers of 32 bits given to one call */
     MOST_ANSWERS = 5,    /* written through pointers by one call */
-    NUMBERS = 13,        /* 0 to 12 */
+    NUMBERS = 14,        /* 0 to 13 */
     UNWRITTEN_BYTE = 0x5a /* each byte of an answer before the call: the call must write it */
 };
 

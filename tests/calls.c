@@ -66,7 +66,7 @@ static void test_content_bound(void)
     expect_sheet_refused(fillers.bytes, fillers.length, UMV_MUCH_CONTENT);
 }
 
-/* The longest sheet has 394 bytes; every other length of it is refused. */
+/* The longest sheet that is accepted has 394 bytes; every other length of it is refused. */
 static void test_longest(void)
 {
     uint16_t fields[UMV_FIELDS];
@@ -85,6 +85,24 @@ static void test_longest(void)
     expect_fields_refused(fields, UMV_MUCH_CAPACITY);
 }
 
+/* The longest that has a sheet's form: an uplink one of 16 codes a slot, 484 bytes. It is refused with 13, with its last capacity 0
+   with 5; every other length of it with 4. */
+static void test_longest_form(void)
+{
+    uint16_t fields[UMV_FIELDS];
+    make_longest(fields, 250);
+    fields[UMV_FIELD_UPLINK] = 1;
+    for (unsigned code = 0; code < 240; code++)
+        fields[UMV_FIELD_LOGARITHMS + code] = (uint16_t)(code % 8);
+    struct sheet sheet = sheet_with(fields);
+    CHECK(sheet.length == UMV_SHEET_FORM_MOST);
+    for (size_t length = 2; length < sizeof sheet.bytes; length++)
+        expect_sheet_refused(sheet.bytes, length, length == UMV_SHEET_FORM_MOST ? UMV_UPLINK_CODES : UMV_FORM);
+    fields[UMV_FIELD_CAPACITIES + 239] = 0;
+    sheet = sheet_with(fields);
+    expect_sheet_refused(sheet.bytes, sheet.length, UMV_NO_CAPACITY);
+}
+
 /* Every place that holds no field set to `value`. */
 static void fill_unused(uint16_t *fields, uint16_t value)
 {
@@ -94,10 +112,10 @@ static void fill_unused(uint16_t *fields, uint16_t value)
 }
 
 /* What stands past the counts changes no sheet, and comes back as zeros. */
-static void test_round_trip(void)
+static void test_round_trip(void (*make)(uint16_t *))
 {
     uint16_t fields[UMV_FIELDS], noisy[UMV_FIELDS];
-    make_fields(fields);
+    make(fields);
     struct sheet sheet = sheet_with(fields);
     memcpy(noisy, fields, sizeof noisy);
     fill_unused(noisy, 65535);
@@ -123,15 +141,18 @@ static void draw_fields(uint16_t *fields)
     fields[UMV_FIELD_MODE] = (uint16_t)draw(0, 1);
     fields[UMV_FIELD_CHANNELS] = (uint16_t)draw(1, 8);
     fields[UMV_FIELD_SLOTS] = (uint16_t)draw(1, 15);
+    fields[UMV_FIELD_UPLINK] = (uint16_t)draw(0, 1);
     for (unsigned i = 0; i < fields[UMV_FIELD_CHANNELS]; i++) {
         fields[UMV_FIELD_TTI + i] = (uint16_t)draw(0, 3);
         fields[UMV_FIELD_E + i] = (uint16_t)(i > 0 && draw(0, 3) == 0 ? 0 : draw(1, 7000));
         fields[UMV_FIELD_RM + i] = (uint16_t)draw(1, 256);
     }
     for (unsigned t = 0; t < fields[UMV_FIELD_SLOTS]; t++) {
-        fields[UMV_FIELD_PHCHS + t] = (uint16_t)draw(1, 16);
-        for (unsigned p = 0; p < fields[UMV_FIELD_PHCHS + t]; p++)
+        fields[UMV_FIELD_PHCHS + t] = (uint16_t)draw(1, fields[UMV_FIELD_UPLINK] == 1 ? 2 : 16);
+        for (unsigned p = 0; p < fields[UMV_FIELD_PHCHS + t]; p++) {
             fields[UMV_FIELD_CAPACITIES + 16 * t + p] = (uint16_t)draw(1, 250);
+            fields[UMV_FIELD_LOGARITHMS + 16 * t + p] = (uint16_t)(fields[UMV_FIELD_UPLINK] == 1 ? draw(0, 4) : 0);
+        }
     }
 }
 
@@ -158,7 +179,7 @@ static void expect_numbers(const uint16_t *fields, const struct sheet *sheet)
         contents += fields[UMV_FIELD_E + i];
         joined += segment(fields, i) << fields[UMV_FIELD_TTI + i];
     }
-    for (unsigned place = UMV_FIELD_CAPACITIES; place < UMV_FIELDS; place++)
+    for (unsigned place = UMV_FIELD_CAPACITIES; place < UMV_FIELD_LOGARITHMS; place++)
         capacity += fields[place];
     CHECK(is_sizes(sizes_of(sheet->bytes, sheet->length), channels, fields[UMV_FIELD_SLOTS], contents, capacity,
                    joined));
@@ -194,7 +215,9 @@ int main(void)
     test_greatest();
     test_content_bound();
     test_longest();
-    test_round_trip();
+    test_longest_form();
+    test_round_trip(make_fields);
+    test_round_trip(make_uplink);
     test_many();
     test_refusals();
     return report("calls");

@@ -11,8 +11,9 @@ bool in_use(const uint16_t *fields, unsigned place)
         return (place - UMV_FIELD_TTI) % 8 < fields[UMV_FIELD_CHANNELS];
     if (place < UMV_FIELD_CAPACITIES)
         return place - UMV_FIELD_PHCHS < fields[UMV_FIELD_SLOTS];
-    unsigned t = (place - UMV_FIELD_CAPACITIES) / 16, p = (place - UMV_FIELD_CAPACITIES) % 16;
-    return t < fields[UMV_FIELD_SLOTS] && p < fields[UMV_FIELD_PHCHS + t];
+    unsigned code = (place - UMV_FIELD_CAPACITIES) % 240, t = code / 16;
+    bool there = t < fields[UMV_FIELD_SLOTS] && code % 16 < fields[UMV_FIELD_PHCHS + t];
+    return there && (place < UMV_FIELD_LOGARITHMS || fields[UMV_FIELD_UPLINK] != 0);
 }
 
 void fill_slots(uint16_t *fields, uint16_t capacity)
@@ -35,12 +36,13 @@ static void put(uint8_t *sheet, size_t *bits, unsigned value, unsigned width)
 size_t pack(const uint16_t *fields, uint8_t *sheet)
 {
     size_t bits = 0;
-    memset(sheet, 0, UMV_SHEET_MOST);
+    memset(sheet, 0, UMV_SHEET_FORM_MOST);
     put(sheet, &bits, fields[UMV_FIELD_VERSION], 4);
     put(sheet, &bits, fields[UMV_FIELD_MODE], 1);
     put(sheet, &bits, fields[UMV_FIELD_CHANNELS] - 1u, 3);
     put(sheet, &bits, fields[UMV_FIELD_SLOTS], 4);
-    put(sheet, &bits, 0, 4);
+    put(sheet, &bits, fields[UMV_FIELD_UPLINK], 1);
+    put(sheet, &bits, 0, 3);
     for (unsigned i = 0; i < fields[UMV_FIELD_CHANNELS]; i++) {
         put(sheet, &bits, fields[UMV_FIELD_TTI + i], 2);
         put(sheet, &bits, fields[UMV_FIELD_E + i], 14);
@@ -48,8 +50,10 @@ size_t pack(const uint16_t *fields, uint8_t *sheet)
     }
     for (unsigned t = 0; t < fields[UMV_FIELD_SLOTS]; t++) {
         put(sheet, &bits, fields[UMV_FIELD_PHCHS + t] - 1u, 4);
-        for (unsigned p = 0; p < fields[UMV_FIELD_PHCHS + t]; p++)
+        for (unsigned p = 0; p < fields[UMV_FIELD_PHCHS + t]; p++) {
+            put(sheet, &bits, fields[UMV_FIELD_LOGARITHMS + 16 * t + p], fields[UMV_FIELD_UPLINK] != 0 ? 3 : 0);
             put(sheet, &bits, fields[UMV_FIELD_CAPACITIES + 16 * t + p], 12);
+        }
     }
     return bits;
 }

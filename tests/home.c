@@ -41,6 +41,18 @@ static struct channel {
 } channels[CHANNELS];
 
 static unsigned long met_mode[2], met_tti[4], met_channels[CHANNELS], met_empty;
+static unsigned long met_single, met_codes[5][5]; /* uplink slots of one code, and of two with these logarithms */
+
+static void count_codes(void)
+{
+    for (uint32_t t = 0; fields[UMV_FIELD_UPLINK] == 1 && t < sizes.slots; t++) {
+        const uint16_t *logs = &fields[UMV_FIELD_LOGARITHMS + 16 * t];
+        if (fields[UMV_FIELD_PHCHS + t] == 1)
+            met_single++;
+        else
+            met_codes[logs[0]][logs[1]]++;
+    }
+}
 
 /* Whether the library's numbers are such that the buffers here hold what it will write. */
 static bool read_channels(void)
@@ -58,6 +70,7 @@ static bool read_channels(void)
         met_tti[fields[UMV_FIELD_TTI + i]]++;
         met_empty += c->e == 0;
     }
+    count_codes();
     met_mode[fields[UMV_FIELD_MODE]]++;
     met_channels[sizes.channels - 1]++;
     return CHECK(in_contents == sizes.contents && in_joined == sizes.joined);
@@ -224,13 +237,15 @@ static void there_and_back(void)
 /* How many kinds of sheet or of bit were never met. */
 static unsigned not_met(void)
 {
-    unsigned missing = (met_empty == 0) + (punctured == 0) + (once == 0) + (joined_values == 0);
+    unsigned missing = (met_empty == 0) + (punctured == 0) + (once == 0) + (joined_values == 0) + (met_single == 0);
     for (int i = 0; i < 2; i++)
         missing += met_mode[i] == 0;
     for (int i = 0; i < 4; i++)
         missing += met_tti[i] == 0;
     for (int i = 0; i < CHANNELS; i++)
         missing += met_channels[i] == 0;
+    for (int i = 0; i < 25; i++)
+        missing += met_codes[i / 5][i % 5] == 0;
     return missing;
 }
 

@@ -151,6 +151,19 @@ for bits in 1,5 3,7 2,6 4,8; do
     whereis '10 10 80 05 00 00 02' $frame 1 1 2 0 "bit ${bits#*,} of channel 1, copy 0$second"
     frame=$((frame + 1))
 done
+# Uplink, spreading factors 8 and 2, capacities 7 and 5: PhCH 1 takes one bit at its turn, PhCH 2 four, of its second turn only one.
+# Second interleaving of 12: 1, 11, 6, 4, 9, 2, 12, 7, 5, 10, 3, 8. PhCH 1 has turns 1, 6, 8 to 12, PhCH 2 from its last place down 2 to 5
+# and 7.
+place=0
+for bit in 1 2 7 5 10 3 8; do
+    place=$((place + 1))
+    whereis '10 18 00 0c 00 16 00 e4 01 40' 0 1 1 $place 0 "bit $bit of channel 1, copy 0"
+done
+place=0
+for bit in 12 9 4 6 11; do
+    place=$((place + 1))
+    whereis '10 18 00 0c 00 16 00 e4 01 40' 0 1 2 $place 0 "bit $bit of channel 1, copy 0"
+done
 # The table of numbers. 6: 8 channels of 16,383 bits; 7: 15 slots of 4,095 bits, 61,425 in sum.
 whereis '10' 0 1 1 1 1 'refused, 1: the sheet is shorter than 2 bytes'
 whereis '20 10 00 06 00 00 04' 0 1 1 1 1 "refused, 2: the sheet's version is not 1"
@@ -158,7 +171,17 @@ whereis '10 00 00 06 00' 0 1 1 1 1 'refused, 3: the sheet has no slot'
 form="refused, 4: the sheet's length is not what its fields need, or a spare or padding bit is set"
 whereis "$example 00" 0 1 1 1 1 "$form"
 whereis '10 11 00 06 00 00 04' 0 1 1 1 1 "$form"
+whereis '10 14 00 06 00 00 04' 0 1 1 1 1 "$form"
 whereis '10 10 00 06 00 00 00' 0 1 1 1 1 'refused, 5: a capacity is 0'
+codes='refused, 13: an uplink slot has more than two codes, or a logarithm over 4'
+whereis '10 18 00 06 00 0a 00 80' 0 1 1 1 1 "$codes"
+# The longest that has a sheet's form, 484 bytes: 8 channels, 15 uplink slots of 16 codes with logarithms 7 and capacities 4,095.
+longest="17 f8 $(printf '3f ff 00 %.0s' {1..8})$(printf 'f%.0s' {1..915})"
+whereis "${longest}0" 0 1 1 1 1 "$codes"
+same 'sizes, the longest that has a form' $'the sheet is refused: 13\nstatus 1' \
+    "$(told "${run[@]}" "$room/examples/sizes" "$room/sheet")"
+whereis "${longest}000" 0 1 1 1 1 "$form"
+whereis "${longest%fff}0000" 0 1 1 1 1 'refused, 5: a capacity is 0'
 whereis "17 10 $(printf '3f ff 00 %.0s' {1..8})00 04" 0 1 1 1 1 \
     "refused, 6: the channels' equalised sizes sum up to more than 60,000 bits"
 whereis "10 f0 00 06 00 $(printf '0f ff %.0s' {1..15})" 0 1 1 1 1 'refused, 7: the capacities sum up to more than 60,000 bits'

@@ -1,10 +1,13 @@
 #!/usr/bin/env bash
-# lister.sh COMMAND..: runs the sheet lister COMMAND on each case of lister.cases and compares what it prints, byte by byte.
+# lister.sh FILE COMMAND..: runs the sheet lister COMMAND on each case of lister.cases, and on each of FILE, outside vectors that are
+# passed over where they are not there; compares what it prints, byte by byte.
 set -euo pipefail
 cases=$(dirname "$0")/lister.cases
+outside=$1
+shift
 room=$(mktemp -d)
 trap 'rm -rf "$room"' EXIT
-count=0 bad=0 name='' hex=''
+count=0 bad=0 line=0 name='' hex=''
 
 # Appends words of hex digits, each HEX or HEX*N, to $hex.
 add_hex() {
@@ -43,5 +46,18 @@ while read -r mark text; do
     esac
 done <"$cases"
 run_case "$@"
+
+# Lines `HEX => LINE / LINE ..`; no input is `-`.
+if [[ -f $outside ]]; then
+    while read -r hex mark text; do
+        [[ $mark = '=>' ]] || { echo "lister: what is '$hex $mark $text' in $outside?" && exit 2; }
+        name="line $((++line)) of $outside"
+        hex=${hex#-}
+        sed 's| / |\n|g' <<<"$text" >"$room/expected"
+        run_case "$@"
+    done <"$outside"
+else
+    echo "lister: $outside is not there: skipped"
+fi
 echo "lister: $count cases, $bad wrong"
 ((bad == 0 && count > 0))

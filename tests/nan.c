@@ -26,14 +26,16 @@ static struct channel {
     size_t in_joined; /* where it begins */
 } channels[CHANNELS];
 
-/* Two slots, of two PhCHs and of one. */
-static void make_sheet(uint16_t mode, const uint16_t *capacities)
+/* Two slots, of two PhCHs and of one; in uplink the first two have runs of 2 and 1. */
+static void make_sheet(uint16_t mode, uint16_t uplink, const uint16_t *capacities)
 {
     static const uint16_t tti[CHANNELS] = {0, 1, 2, 3, 1}, encoded[CHANNELS] = {5, 13, 31, 43, 0};
     uint16_t fields[UMV_FIELDS] = {[UMV_FIELD_VERSION] = 1, [UMV_FIELD_CHANNELS] = CHANNELS, [UMV_FIELD_SLOTS] = 2};
     uint64_t length = 0, count, slots, contents;
     size_t in_joined = 0;
     fields[UMV_FIELD_MODE] = mode;
+    fields[UMV_FIELD_UPLINK] = uplink;
+    fields[UMV_FIELD_LOGARITHMS + 1] = uplink;
     for (unsigned i = 0; i < CHANNELS; i++) {
         fields[UMV_FIELD_TTI + i] = tti[i];
         fields[UMV_FIELD_E + i] = encoded[i];
@@ -218,14 +220,15 @@ static void test_contents(void)
 int main(void)
 {
     static const uint16_t capacities[][3] = {{3, 4, 10}, {5, 9, 12}, {20, 19, 21}}; /* punctured, N as they are, repeated */
-    static const char *const names[][2] = {{"punctured, mode 0", "punctured, mode 1"},
-                                           {"as it is, mode 0", "as it is, mode 1"},
-                                           {"repeated, mode 0", "repeated, mode 1"}};
+    static const char *const names[][4] = {
+        {"punctured, mode 0", "punctured, mode 1", "punctured, uplink, mode 0", "punctured, uplink, mode 1"},
+        {"as it is, mode 0", "as it is, mode 1", "as it is, uplink, mode 0", "as it is, uplink, mode 1"},
+        {"repeated, mode 0", "repeated, mode 1", "repeated, uplink, mode 0", "repeated, uplink, mode 1"}};
     make_nans();
     for (int rate = 0; rate < 3; rate++)
-        for (uint16_t mode = 0; mode < 2; mode++) {
-            subject = names[rate][mode];
-            make_sheet(mode, capacities[rate]);
+        for (uint16_t way = 0; way < 4; way++) {
+            subject = names[rate][way];
+            make_sheet(way % 2, way / 2, capacities[rate]);
             test_finish();
             for (uint32_t frame_number = 0; frame_number < FRAMES; frame_number++)
                 test_take_back(frame_number);

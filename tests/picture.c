@@ -39,7 +39,7 @@ struct reader {
     } start[MOST_LINES];
 };
 
-static uint8_t sheet[UMV_SHEET_MOST + 1];
+static uint8_t sheet[UMV_SHEET_FORM_MOST + 1];
 static size_t sheet_len;
 static uint16_t fields[UMV_FIELDS];
 static uint64_t channels, capacity;
@@ -367,7 +367,8 @@ static void compare_title(void)
 
 /* ---- The sheets ---- */
 
-/* Channels end at the first RM of 0; each slot has as many PhCHs as its list has capacities before the first 0. */
+/* Channels end at the first RM of 0; each slot has as many PhCHs as its list has capacities before the first 0. In uplink two of
+   them have these logarithms. */
 #define EIGHT {{0, 5000, 200}, {0, 4000, 190}, {1, 9001, 200}, {2, 11001, 210}, {3, 12001, 100}, {0, 3000, 256}, \
                {1, 2001, 256}, {0, 7000, 256}}
 #define CODES {250, 250, 250, 250, 250, 250, 250, 250, 250, 250, 250, 250, 250, 250, 250, 250}
@@ -376,13 +377,17 @@ static const struct {
     uint16_t mode, slots;
     uint16_t channels[8][3]; /* TTI, E, RM */
     uint16_t capacities[16];
+    uint16_t uplink, logs[2];
 } sheets[] = {
-    {"244", 0, 1, {{1, 599, 200}}, {244}},
-    {"244-repeated", 1, 1, {{3, 395, 200}}, {244}},
-    {"2440", 0, 5, {{0, 800, 180}, {1, 1601, 200}, {0, 0, 7}, {2, 2403, 100}}, {244, 244}},
-    {"2440-slots", 1, 2, {{0, 400, 180}, {1, 1601, 200}, {2, 2403, 100}, {3, 1, 256}}, {244, 1, 500, 231, 244}},
-    {"60000", 0, 15, EIGHT, {4000}},
-    {"60000-codes", 1, 15, EIGHT, CODES},
+    {"244", 0, 1, {{1, 599, 200}}, {244}, 0, {0}},
+    {"244-repeated", 1, 1, {{3, 395, 200}}, {244}, 0, {0}},
+    {"2440", 0, 5, {{0, 800, 180}, {1, 1601, 200}, {0, 0, 7}, {2, 2403, 100}}, {244, 244}, 0, {0}},
+    {"2440-slots", 1, 2, {{0, 400, 180}, {1, 1601, 200}, {2, 2403, 100}, {3, 1, 256}}, {244, 1, 500, 231, 244}, 0, {0}},
+    {"60000", 0, 15, EIGHT, {4000}, 0, {0}},
+    {"60000-codes", 1, 15, EIGHT, CODES, 0, {0}},
+    {"uplink-single", 0, 3, {{0, 800, 180}, {1, 1601, 200}}, {244}, 1, {4}},
+    {"uplink-first", 1, 3, {{0, 800, 180}, {1, 1601, 200}}, {490, 244}, 1, {2, 4}}, /* runs of 4 and 1, the last one cut short */
+    {"uplink-second", 0, 3, {{0, 800, 180}, {1, 1601, 200}}, {244, 2000}, 1, {4, 0}},
 };
 
 static void make_sheet(unsigned k)
@@ -392,6 +397,7 @@ static void make_sheet(unsigned k)
     fields[UMV_FIELD_VERSION] = 1;
     fields[UMV_FIELD_MODE] = sheets[k].mode;
     fields[UMV_FIELD_SLOTS] = sheets[k].slots;
+    fields[UMV_FIELD_UPLINK] = sheets[k].uplink;
     for (unsigned i = 0; i < 8 && sheets[k].channels[i][2] != 0; i++) {
         fields[UMV_FIELD_CHANNELS]++;
         fields[UMV_FIELD_TTI + i] = sheets[k].channels[i][0];
@@ -402,6 +408,8 @@ static void make_sheet(unsigned k)
         for (unsigned p = 0; p < 16 && sheets[k].capacities[p] != 0; p++) {
             fields[UMV_FIELD_PHCHS + t]++;
             fields[UMV_FIELD_CAPACITIES + 16 * t + p] = sheets[k].capacities[p];
+            if (p < 2)
+                fields[UMV_FIELD_LOGARITHMS + 16 * t + p] = sheets[k].logs[p];
         }
     if (ref_sheet_length(fields, UMV_FIELDS, &length) != 0 ||
         ref_sheet_write(fields, UMV_FIELDS, sheet, length, &length) != 0)

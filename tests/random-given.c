@@ -158,16 +158,29 @@ static void damage(char parameter, void *values, size_t count)
     }
 }
 
+/* A place in the fields: one of the head, the logarithm of a code of the first slot, or any. */
+static uint32_t draw_place(void)
+{
+    switch (between(1, 4)) {
+    case 1:
+        return between(0, UMV_FIELD_UPLINK);
+    case 2:
+        return between(UMV_FIELD_LOGARITHMS, UMV_FIELD_LOGARITHMS + 1);
+    default:
+        return between(0, UMV_FIELDS - 1);
+    }
+}
+
 /* The fields, with chance's values where the counts leave none, and now and then one near the bounds of a range. */
 static void draw_fields(uint16_t *fields, size_t count)
 {
-    static const uint16_t bounds[] = {0, 1, 2, 4, 5, 8, 9, 16, 17, 256, 257, 4095, 4096, 16383, 16384, 65535};
+    static const uint16_t bounds[] = {0, 1, 2, 3, 4, 5, 8, 9, 16, 17, 256, 257, 4095, 4096, 16383, 16384, 65535};
     for (uint32_t place = 0; place < count && place < UMV_FIELDS; place++)
         if (in_use(drawn.fields, place))
             fields[place] = drawn.fields[place];
-    uint32_t place = between(0, one_in(2) ? UMV_FIELDS - 1 : 3);
-    if (one_in(6) && place < count)
-        fields[place] = bounds[between(0, 15)];
+    uint32_t place = draw_place();
+    if (one_in(4) && place < count)
+        fields[place] = bounds[between(0, sizeof bounds / sizeof *bounds - 1)];
 }
 
 /* A slice of chance's bytes, and of what it should hold if the call looks at it. */

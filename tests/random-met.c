@@ -6,12 +6,27 @@
 
 enum { OFFSETS = 8 }; /* addresses modulo 8 */
 
+/* Why 13 was given; where it was given though a later line holds, and 5 though its line holds; from TOO_LONG on, of fields
+   alone. */
+enum uplink {
+    BY_CODES,   /* more than two codes, and no logarithm over 4 */
+    BY_LOG,     /* a logarithm over 4, and no more than two codes */
+    BEFORE_6,   /* 13, where 6 holds too */
+    BEFORE_7,
+    BEFORE_8,
+    BEHIND_5,   /* 5, where 13 holds too */
+    TOO_LONG,   /* 13 by a logarithm that has no 3 bits */
+    NOT_LOOKED, /* downlink fields accepted, with logarithms over 4 */
+    UPLINKS
+};
+
 static struct {
     unsigned long numbers[NUMBERS];
     unsigned long kinds[KINDS];                 /* accepted on such a sheet, with such a channel */
     unsigned long empty[MOST_SLICES];           /* empty slices whose length was looked at */
     unsigned long places[MOST_SLICES][OFFSETS]; /* where slices were lent */
     unsigned long greatest[MOST_WHOLE + 1];     /* 2^32 - 1 that drew 9 or 10; last, 2^64 - 1 that drew 11 */
+    unsigned long uplink[UPLINKS];              /* what has to do with number 13 */
 } met[CALLS];
 
 /* ---- Counting ---- */
@@ -49,6 +64,62 @@ static uint32_t kinds_of(const struct call *call, const struct given *given, con
     return kinds;
 }
 
+/* Whether a slot has more than two codes, and the greatest logarithm of a code. */
+static bool many_codes(const uint16_t *fields, uint32_t *greatest_log)
+{
+    bool many = false;
+    *greatest_log = 0;
+    for (uint32_t t = 0; t < fields[UMV_FIELD_SLOTS]; t++) {
+        many = many || fields[UMV_FIELD_PHCHS + t] > 2;
+        for (uint32_t p = 0; p < fields[UMV_FIELD_PHCHS + t]; p++) {
+            uint32_t log = fields[UMV_FIELD_LOGARITHMS + 16 * t + p];
+            *greatest_log = log > *greatest_log ? log : *greatest_log;
+        }
+    }
+    return many;
+}
+
+/* Which of the lines 6, 7 and 8 hold of fields in their ranges. */
+static uint32_t sums_of(const uint16_t *fields)
+{
+    uint64_t joined = 0, capacity = 0;
+    for (uint32_t i = 0; i < fields[UMV_FIELD_CHANNELS]; i++) {
+        uint32_t f = 1u << fields[UMV_FIELD_TTI + i];
+        joined += (fields[UMV_FIELD_E + i] + f - 1) / f * f;
+    }
+    for (uint32_t t = 0; t < fields[UMV_FIELD_SLOTS]; t++)
+        for (uint32_t p = 0; p < fields[UMV_FIELD_PHCHS + t]; p++)
+            capacity += fields[UMV_FIELD_CAPACITIES + 16 * t + p];
+    return (uint32_t)(joined > 60000) << 6 | (uint32_t)(capacity > 60000) << 7 | (uint32_t)(joined == 0) << 8;
+}
+
+/* What a call met that has these fields, of which no line before 5 holds. */
+static void count_uplink(size_t call, const uint16_t *fields, uint64_t number)
+{
+    uint32_t log, sums = sums_of(fields);
+    bool uplink = fields[UMV_FIELD_UPLINK] == 1, many = many_codes(fields, &log);
+    unsigned long *counts = met[call].uplink;
+    counts[BEHIND_5] += number == UMV_NO_CAPACITY && uplink && (many || log > 4);
+    counts[NOT_LOOKED] += number == UMV_OK && !uplink && log > 4;
+    if (number != UMV_UPLINK_CODES)
+        return;
+    counts[BY_CODES] += log <= 4;
+    counts[BY_LOG] += !many;
+    counts[TOO_LONG] += !many && log > 7;
+    for (unsigned line = 6; line <= 8; line++)
+        counts[BEFORE_6 + line - 6] += sums >> line & 1;
+}
+
+/* The fields that the call was given, or those of its sheet, if it was not damaged. */
+static void count_fields(size_t call, const struct given *given, uint64_t number)
+{
+    bool asked = number == UMV_OK || number == UMV_NO_CAPACITY || number == UMV_UPLINK_CODES;
+    if (asked && takes(&calls[call], 'f'))
+        count_uplink(call, given->slices[0].start, number);
+    else if (asked && !drawn.damaged)
+        count_uplink(call, drawn.fields, number);
+}
+
 static void count_empty(size_t call, const struct given *given, uint64_t number)
 {
     for (size_t i = 0; slice_of(&calls[call], i) != '\0'; i++) {
@@ -76,6 +147,7 @@ void count_call(size_t call, const struct given *given, const struct answer *ans
     met[call].numbers[answer->number]++;
     count_empty(call, given, answer->number);
     count_greatest(call, given, answer->number);
+    count_fields(call, given, answer->number);
     if (answer->number != UMV_OK)
         return;
     uint32_t kinds = kinds_of(&calls[call], given, answer);
@@ -109,6 +181,16 @@ static unsigned print_kind(size_t call, size_t kind)
 {
     bool possible = kind != EMPTY || !(takes(&calls[call], 'u') || takes(&calls[call], 'm'));
     return print_count(possible, met[call].kinds[kind]);
+}
+
+static unsigned print_run(size_t call, size_t column)
+{
+    return print_kind(call, FULL_UPLINK + column);
+}
+
+static unsigned print_uplink(size_t call, size_t column)
+{
+    return print_count(column < TOO_LONG || takes(&calls[call], 'f'), met[call].uplink[column]);
 }
 
 /* How often a slice was empty, and how often it lay at the rarest of the offsets that its type allows. */
@@ -162,16 +244,26 @@ static unsigned print_table(const char *title, const char *const *heads, size_t 
 
 unsigned report_met(void)
 {
-    static const char *const numbers[] = {"0", "1", "2", "3", "4", "5", "6", "7", "8", "9", "10", "11", "12"};
+    static const char *const numbers[] = {"0", "1", "2", "3", "4", "5", "6", "7", "8", "9", "10", "11", "12", "13"};
     static const char *const kinds[] = {"mode 0", "mode 1", "394", "D", "T",
                                         "E = 0",  "V < N",  "V = N", "V > N", "1,000", "q odd", "q even", "F | q"};
     static const char *const parameters[] = {"1st",  "offset", "2nd",  "offset", "3rd", "offset", "frame",
                                              "TrCH", "slot",   "PhCH", "place",  "bit", "length"};
+    static const char *const runs[] = {"D",   "1 code", "1, 1", "2, 1",  "4, 1",  "8, 1", "16, 1", "1, 2",
+                                       "1, 4", "1, 8",   "1, 16", "cut 1", "cut 2", "long",  "short"};
+    static const char *const uplinks[] = {"codes", "log", "13, 6", "13, 7", "13, 8", "5, 13", "log>7", "unseen"};
     unsigned missing = print_table("Numbers answered", numbers, NUMBERS, print_number);
     missing += print_table("Accepted: sheets of both modes and of 394 bytes, D and sums of T_i of 60,000; channels that are\n"
                            "empty, punctured, unaltered, repeated, of which a bit is sent 1,000 times or more, and, in TTIs of\n"
                            "several frames, with a q that is odd, even and no multiple of F, and a multiple of F",
-                           kinds, KINDS, print_kind);
+                           kinds, FULL_UPLINK, print_kind);
+    missing += print_table("Accepted: uplink sheets of 60,000 places; with a slot of one code, of two that take so many bits at\n"
+                           "their turns (the one with a run has a whole turn), of two of which this one fills up in mid-run,\n"
+                           "of two of which the one with the longer run, or with the shorter, is full and passed over",
+                           runs, sizeof runs / sizeof *runs, print_run);
+    missing += print_table("Refused with 13 for many codes alone, for a logarithm alone, where 6, 7 or 8 holds too; with 5\n"
+                           "where 13 holds too; of fields, 13 for a logarithm over 7; downlink fields with logarithms over 4",
+                           uplinks, UPLINKS, print_uplink);
     missing += print_table("Slices that were empty, each lent with a valid, a null and another pointer; slices at the rarest\n"
                            "offset that their type allows; numbers of 2^32 - 1 and lengths of 2^64 - 1 that drew a refusal",
                            parameters, sizeof parameters / sizeof *parameters, print_parameter);

@@ -1,4 +1,5 @@
 /* Part of random: a sheet is drawn. */
+#include <stdlib.h>
 #include <string.h>
 
 #include "chance.h"
@@ -65,6 +66,23 @@ static void few_bits(void)
     }
 }
 
+/* Makes the sheet an uplink one, of one or two codes a slot, or with `too_many` of as many as there are; a `fullest` one has just
+   60,000 bits in sum. */
+static void random_uplink(bool fullest, bool too_many, uint32_t most_log)
+{
+    fields[UMV_FIELD_UPLINK] = 1;
+    for (uint32_t t = 0; t < fields[UMV_FIELD_SLOTS]; t++) {
+        uint16_t *phchs = &fields[UMV_FIELD_PHCHS + t];
+        if (*phchs > 2 && !too_many)
+            *phchs = fullest || !one_in(4) ? 2 : 1;
+        for (uint32_t p = 0; p < *phchs; p++) {
+            fields[UMV_FIELD_LOGARITHMS + 16 * t + p] = (uint16_t)between(0, most_log);
+            if (fullest && !too_many)
+                fields[UMV_FIELD_CAPACITIES + 16 * t + p] = 2000;
+        }
+    }
+}
+
 /* Fields in their ranges. Most frames are small, so that there is time for many; some are as great as there are. */
 static void random_fields(void)
 {
@@ -75,13 +93,13 @@ static void random_fields(void)
     if (kind <= 1) {
         few_bits();
         fullest_slots(false);
-    } else if (kind <= 6) {
+    } else if (kind <= 10) {
         fullest_channels(one_in(3));
         fullest_slots(one_in(3));
-    } else if (kind <= 14) {
+    } else if (kind <= 18) {
         random_channels(16383);
         random_slots(15, 4095);
-    } else if (kind <= 17) {
+    } else if (kind <= 21) {
         random_channels(one_in(2) ? 1 : 7000);
         random_slots(3, 2000);
     } else if (kind <= 160) {
@@ -97,6 +115,10 @@ static void random_fields(void)
         fields[UMV_FIELD_CHANNELS] = fields[UMV_FIELD_SLOTS] = fields[UMV_FIELD_PHCHS] = 1;
         fields[UMV_FIELD_E] = (uint16_t)(first << fields[UMV_FIELD_TTI] & 0x3fff);
     }
+    /* Of great frames more are refused with 13, since these may have other lines too. */
+    uint32_t rare = kind <= 18 ? 3 : 8;
+    if (one_in(3))
+        random_uplink(kind <= 10 && fields[UMV_FIELD_SLOTS] == 15, one_in(rare), one_in(rare) ? 7 : 4);
 }
 
 /* Fields that name their refusal and still stand in a sheet. */
@@ -106,8 +128,8 @@ static void damage_fields(void)
         fields[UMV_FIELD_VERSION] = (uint16_t)between(0, 15);
     if (one_in(60))
         fields[UMV_FIELD_SLOTS] = 0;
-    if (one_in(40))
-        fields[UMV_FIELD_CAPACITIES + between(0, 15)] = 0;
+    if (one_in(25))
+        fields[UMV_FIELD_CAPACITIES + between(0, one_in(2) ? 1 : 15)] = 0;
     if (one_in(40))
         memset(&fields[UMV_FIELD_E], 0, 8 * sizeof *fields);
 }
@@ -118,7 +140,7 @@ static void damage_sheet(size_t bits)
     uint8_t *sheet = drawn.sheet;
     size_t length = drawn.packed_len;
     if (one_in(40))
-        sheet[1] |= (uint8_t)between(1, 15); /* spare bits */
+        sheet[1] |= (uint8_t)between(1, 7); /* spare bits */
     if (one_in(20) && bits % 8 != 0)
         sheet[length - 1] |= (uint8_t)(1u << between(0, 7 - (uint32_t)(bits % 8))); /* padding */
     if (one_in(40)) {
@@ -153,6 +175,34 @@ static uint32_t kinds_of_channel(uint32_t trch)
     return kinds | 1u << (q % 2 == 1 ? ODD_STEP : q % f != 0 ? FEWER_ZEROS : ALL_ZEROS);
 }
 
+/* Of two codes. The one with the smaller spreading factor has runs; the other needs as many turns as it has places. Rounds of
+   one turn each, code 1 first, go on until both are full. */
+static uint32_t kinds_of_codes(const uint16_t *capacities, const uint16_t *logs)
+{
+    if (logs[0] == logs[1])
+        return 1u << EQUAL_CODES;
+    unsigned runner = logs[0] < logs[1] ? 0 : 1, doublings = (unsigned)abs(logs[0] - logs[1]);
+    uint32_t run = 1u << doublings, turns = (capacities[runner] + run - 1) / run, others = capacities[1 - runner];
+    uint32_t runs = (runner == 0 ? FIRST_RUNS : SECOND_RUNS) + doublings - 1;
+    bool cut = capacities[runner] % run != 0 && others >= turns + runner; /* the other code has a place left then */
+    return (uint32_t)(capacities[runner] >= run) << runs | (uint32_t)cut << (runner == 0 ? FIRST_CUT : SECOND_CUT) |
+           (uint32_t)(others > turns + runner) << LONG_FULL | (uint32_t)(turns > others + 1 - runner) << SHORT_FULL;
+}
+
+static uint32_t kinds_of_uplink(void)
+{
+    uint16_t read[UMV_FIELDS];
+    uint64_t at;
+    reference.sheet_read(drawn.sheet, drawn.sheet_len, read, UMV_FIELDS, &at);
+    uint32_t kinds = (uint32_t)(read[UMV_FIELD_UPLINK] == 1 && drawn.capacity == 60000) << FULL_UPLINK;
+    for (uint32_t t = 0; read[UMV_FIELD_UPLINK] == 1 && t < drawn.slots; t++)
+        if (read[UMV_FIELD_PHCHS + t] == 1)
+            kinds |= 1u << ONE_CODE;
+        else
+            kinds |= kinds_of_codes(&read[UMV_FIELD_CAPACITIES + 16 * t], &read[UMV_FIELD_LOGARITHMS + 16 * t]);
+    return kinds;
+}
+
 /* What the reference says of the sheet. */
 static void measure(void)
 {
@@ -164,14 +214,15 @@ static void measure(void)
         return;
     bool by_slot = drawn.sheet[0] >> 3 & 1;
     drawn.kinds = 1u << (by_slot ? BY_SLOT : OVER_FRAME) | (uint32_t)(drawn.sheet_len == UMV_SHEET_MOST) << LONGEST |
-                  (uint32_t)(drawn.capacity == 60000) << FULL_FRAME | (uint32_t)(drawn.joined == 60000) << FULL_JOINED;
+                  (uint32_t)(drawn.capacity == 60000) << FULL_FRAME | (uint32_t)(drawn.joined == 60000) << FULL_JOINED |
+                  kinds_of_uplink();
     for (uint32_t i = 0; i < drawn.channels; i++)
         drawn.channel_kinds[i] = kinds_of_channel(i + 1);
 }
 
 void draw_sheet(void)
 {
-    uint8_t packed[UMV_SHEET_MOST];
+    uint8_t packed[UMV_SHEET_FORM_MOST];
     random_fields();
     damage_fields();
     size_t bits = pack(fields, packed);

@@ -4,7 +4,7 @@
 
 #include "call.h"
 
-/* Kinds of sheet; from EMPTY on, kinds of channel. */
+/* Kinds of sheet; from EMPTY on, kinds of channel; from FULL_UPLINK on, kinds of uplink sheet, and of its slots. */
 enum kind {
     OVER_FRAME,  /* mode 0 */
     BY_SLOT,     /* mode 1 */
@@ -19,13 +19,22 @@ enum kind {
     ODD_STEP,    /* step 5's |q| is odd, in a TTI of more than one frame, as in the next two */
     FEWER_ZEROS, /* |q| is even, with fewer trailing zeros than F */
     ALL_ZEROS,   /* |q| is a multiple of F */
+    FULL_UPLINK, /* D is 60,000 */
+    ONE_CODE,    /* one code */
+    EQUAL_CODES, /* two codes of equal spreading factors */
+    FIRST_RUNS,  /* code 1 takes 2 bits at its turn, and has a whole turn; then 4, 8, 16 bits */
+    SECOND_RUNS = FIRST_RUNS + 4, /* the same of code 2 */
+    FIRST_CUT = SECOND_RUNS + 4,  /* code 1 has runs and fills up in mid-run, which gives its turn to the other code */
+    SECOND_CUT,  /* the same of code 2 */
+    LONG_FULL,   /* the code that has runs is full and passed over */
+    SHORT_FULL,  /* the other code of such a slot is */
     KINDS
 };
 
 /* The sheet at work. */
 struct drawn {
     uint16_t fields[UMV_FIELDS]; /* before the sheet's bytes were damaged */
-    uint8_t sheet[2 * UMV_SHEET_MOST];
+    uint8_t sheet[2 * UMV_SHEET_FORM_MOST];
     size_t sheet_len;
     size_t packed_len; /* before they were damaged */
     bool damaged;

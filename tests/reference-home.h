@@ -9,8 +9,8 @@ static size_t first_not_soft(const float *values, size_t count)
     return i;
 }
 
-/* Step 9 undone: the values of the slot's places in the order in which their turns came. */
-static void unmap(const struct slot *slot, const float *frame, float *values)
+/* Step 9 undone where each PhCH had one value at its turn: the slot's values in the order in which their turns came. */
+static void unmap_single(const struct slot *slot, const float *frame, float *values)
 {
     const float *next[16];
     uint32_t left[16];
@@ -26,6 +26,26 @@ static void unmap(const struct slot *slot, const float *frame, float *values)
                 next[p] += p % 2 == 0 ? 1 : -1;
                 left[p]--;
             }
+}
+
+/* Step 9 of two codes in runs undone. */
+static void unmap_runs(const struct slot *slot, const float *frame, float *values)
+{
+    const float *const middle = frame + slot->U[0], *up = frame, *down = frame + slot->bits;
+    while (up < middle || down > middle) {
+        for (uint32_t k = 0; k < slot->bs[0] && up < middle; k++)
+            *values++ = *up++;
+        for (uint32_t k = 0; k < slot->bs[1] && down > middle; k++)
+            *values++ = *--down;
+    }
+}
+
+static void unmap(const struct slot *slot, const float *frame, float *values)
+{
+    if (slot->bs[0] == slot->bs[1])
+        unmap_single(slot, frame, values);
+    else
+        unmap_runs(slot, frame, values);
 }
 
 /* Step 8 undone. */

@@ -31,8 +31,10 @@ static void take_slots(struct reader *reader, struct form *form)
 {
     for (uint32_t t = 0; t < form->T; t++) {
         form->slots[t].P = take(reader, 4) + 1;
-        for (uint32_t p = 0; p < form->slots[t].P; p++)
+        for (uint32_t p = 0; p < form->slots[t].P; p++) {
+            form->slots[t].log[p] = take(reader, form->uplink ? 3 : 0);
             form->slots[t].U[p] = take(reader, 12);
+        }
     }
 }
 
@@ -50,7 +52,8 @@ static uint32_t read_fields(const uint8_t *sheet, size_t sheet_len, struct form 
         return 2;
     if (form->T == 0)
         return 3;
-    uint32_t spare = take(&reader, 4);
+    form->uplink = take(&reader, 1);
+    uint32_t spare = take(&reader, 3);
     take_channels(&reader, form);
     take_slots(&reader, form);
     uint32_t padding = take(&reader, (8 - reader.bit % 8) % 8);
@@ -87,6 +90,36 @@ static int sum_capacities(struct form *form)
     return empty;
 }
 
+/* Whether an uplink slot has more than two codes, or a logarithm over 4. */
+static int codes_outside(const struct form *form)
+{
+    for (uint32_t t = 0; form->uplink && t < form->T; t++) {
+        const struct slot *slot = &form->slots[t];
+        if (slot->P > 2)
+            return 1;
+        for (uint32_t p = 0; p < slot->P; p++)
+            if (slot->log[p] > 4)
+                return 1;
+    }
+    return 0;
+}
+
+/* Document 004's rule for the consecutive bits of each code. Downlink slots have all logarithms 0. */
+static void set_runs(struct form *form)
+{
+    for (uint32_t t = 0; t < form->T; t++) {
+        struct slot *slot = &form->slots[t];
+        slot->bs[0] = slot->bs[1] = 1;
+        if (slot->P != 2)
+            continue;
+        const uint32_t SF1 = 1u << slot->log[0], SF2 = 1u << slot->log[1];
+        if (SF1 >= SF2)
+            slot->bs[1] = SF1 / SF2;
+        else
+            slot->bs[0] = SF2 / SF1;
+    }
+}
+
 /* Step 4. The weights sum up to at most 256 x 60,000, and D is at most 60,000. */
 static void share(struct form *form)
 {
@@ -104,12 +137,14 @@ static void share(struct form *form)
     }
 }
 
-/* What follows from fields in their ranges, or 5 to 8. */
+/* What follows from fields in their ranges, or 5, 13 and 6 to 8. */
 static uint32_t measure(struct form *form)
 {
     equalise(form);
     if (sum_capacities(form))
         return 5;
+    if (codes_outside(form))
+        return 13;
     if (form->joined > MOST)
         return 6;
     if (form->D > MOST)
@@ -117,17 +152,18 @@ static uint32_t measure(struct form *form)
     if (form->contents == 0)
         return 8;
     share(form);
+    set_runs(form);
     return 0;
 }
 
-/* A sheet opened, or 1 to 8. */
+/* A sheet opened, or 1 to 5, 13 and 6 to 8. */
 static uint32_t open_sheet(const uint8_t *sheet, size_t sheet_len, struct form *form)
 {
     uint32_t number = read_fields(sheet, sheet_len, form);
     return number != 0 ? number : measure(form);
 }
 
-/* 1 to 9. */
+/* The same, then 9. */
 static uint32_t open_frame(const uint8_t *sheet, size_t sheet_len, uint32_t frame_number, struct form *form)
 {
     uint32_t number = open_sheet(sheet, sheet_len, form);
@@ -154,6 +190,7 @@ uint32_t ref_sheet_read(const uint8_t *sheet, size_t sheet_len, uint16_t *fields
     fields[1] = (uint16_t)form.mode;
     fields[2] = (uint16_t)form.I;
     fields[3] = (uint16_t)form.T;
+    fields[4] = (uint16_t)form.uplink;
     for (uint32_t i = 0; i < form.I; i++) {
         fields[FIELD_TTI + i] = (uint16_t)form.channels[i].TTI;
         fields[FIELD_E + i] = (uint16_t)form.channels[i].E;
@@ -161,14 +198,16 @@ uint32_t ref_sheet_read(const uint8_t *sheet, size_t sheet_len, uint16_t *fields
     }
     for (uint32_t t = 0; t < form.T; t++) {
         fields[FIELD_P + t] = (uint16_t)form.slots[t].P;
-        for (uint32_t p = 0; p < form.slots[t].P; p++)
+        for (uint32_t p = 0; p < form.slots[t].P; p++) {
             fields[FIELD_U + 16 * t + p] = (uint16_t)form.slots[t].U[p];
+            fields[FIELD_LOG + 16 * t + p] = (uint16_t)form.slots[t].log[p];
+        }
     }
     *at = FIELDS;
     return 0;
 }
 
-/* Whether a channel or slot has a field outside its range, other than a capacity of 0. */
+/* Whether a channel or slot has a field outside its range, which neither 5 nor 13 names. */
 static int channel_outside(const struct channel *c)
 {
     return c->TTI > 3 || c->E > 16383 || c->RM < 1 || c->RM > 256;
@@ -191,11 +230,12 @@ static uint32_t check_fields(const uint16_t *fields, struct form *form)
     form->mode = fields[1];
     form->I = fields[2];
     form->T = fields[3];
+    form->uplink = fields[4];
     if (form->version != 1)
         return 2;
     if (form->T == 0)
         return 3;
-    if (form->mode > 1 || form->I < 1 || form->I > 8 || form->T > 15)
+    if (form->mode > 1 || form->uplink > 1 || form->I < 1 || form->I > 8 || form->T > 15)
         return 4;
     for (uint32_t i = 0; i < form->I; i++) {
         struct channel *c = &form->channels[i];
@@ -208,15 +248,17 @@ static uint32_t check_fields(const uint16_t *fields, struct form *form)
     for (uint32_t t = 0; t < form->T; t++) {
         struct slot *slot = &form->slots[t];
         slot->P = fields[FIELD_P + t];
-        for (uint32_t p = 0; p < 16; p++)
+        for (uint32_t p = 0; p < 16; p++) {
             slot->U[p] = fields[FIELD_U + 16 * t + p];
+            slot->log[p] = form->uplink ? fields[FIELD_LOG + 16 * t + p] : 0;
+        }
         if (slot_outside(slot))
             return 4;
     }
     return 0;
 }
 
-/* The length of the sheet with these fields, or 11 and 2 to 8. */
+/* The length of the sheet with these fields, or 11, 2 to 5, 13 and 6 to 8. */
 static uint32_t check_and_count(const uint16_t *fields, size_t fields_len, struct form *form, size_t *length)
 {
     if (fields_len != FIELDS)
@@ -228,7 +270,7 @@ static uint32_t check_and_count(const uint16_t *fields, size_t fields_len, struc
         return number;
     size_t bits = 16 + 24 * form->I;
     for (uint32_t t = 0; t < form->T; t++)
-        bits += 4 + 12 * form->slots[t].P;
+        bits += 4 + (form->uplink ? 3 + 12 : 12) * form->slots[t].P;
     *length = (bits + 7) / 8;
     return 0;
 }
@@ -264,7 +306,8 @@ uint32_t ref_sheet_write(const uint16_t *fields, size_t fields_len, uint8_t *she
     put(sheet, &bit, 1, form.mode);
     put(sheet, &bit, 3, form.I - 1);
     put(sheet, &bit, 4, form.T);
-    put(sheet, &bit, 4, 0);
+    put(sheet, &bit, 1, form.uplink);
+    put(sheet, &bit, 3, 0);
     for (uint32_t i = 0; i < form.I; i++) {
         put(sheet, &bit, 2, form.channels[i].TTI);
         put(sheet, &bit, 14, form.channels[i].E);
@@ -272,8 +315,10 @@ uint32_t ref_sheet_write(const uint16_t *fields, size_t fields_len, uint8_t *she
     }
     for (uint32_t t = 0; t < form.T; t++) {
         put(sheet, &bit, 4, form.slots[t].P - 1);
-        for (uint32_t p = 0; p < form.slots[t].P; p++)
+        for (uint32_t p = 0; p < form.slots[t].P; p++) {
+            put(sheet, &bit, form.uplink ? 3 : 0, form.slots[t].log[p]);
             put(sheet, &bit, 12, form.slots[t].U[p]);
+        }
     }
     *at = length;
     return 0;

@@ -48,8 +48,8 @@ static void STEP(interleave)(const VALUE *values, size_t count, VALUE *out)
             *out++ = values[k];
 }
 
-/* Step 9: the slot's values, one at a time, to its PhCHs in turn, full ones passed over. */
-static void STEP(map)(const struct slot *slot, const VALUE *values, VALUE *frame)
+/* Step 9 where each PhCH takes one value at its turn: to the PhCHs in turn, full ones passed over. */
+static void STEP(map_single)(const struct slot *slot, const VALUE *values, VALUE *frame)
 {
     const uint32_t P = slot->P;
     VALUE *next[16];   /* the place that each PhCH fills next */
@@ -66,6 +66,26 @@ static void STEP(map)(const struct slot *slot, const VALUE *values, VALUE *frame
                 next[p] += p % 2 == 0 ? 1 : -1;
                 left[p]--;
             }
+}
+
+/* Step 9 of two codes in runs. The first fills upwards from the slot's start, the second downwards from its end. */
+static void STEP(map_runs)(const struct slot *slot, const VALUE *values, VALUE *frame)
+{
+    VALUE *const middle = frame + slot->U[0], *up = frame, *down = frame + slot->bits;
+    while (up < middle || down > middle) {
+        for (uint32_t k = 0; k < slot->bs[0] && up < middle; k++)
+            *up++ = *values++;
+        for (uint32_t k = 0; k < slot->bs[1] && down > middle; k++)
+            *--down = *values++;
+    }
+}
+
+static void STEP(map)(const struct slot *slot, const VALUE *values, VALUE *frame)
+{
+    if (slot->bs[0] == slot->bs[1])
+        STEP(map_single)(slot, values, frame);
+    else
+        STEP(map_runs)(slot, values, frame);
 }
 
 /* Steps 8 and 9: the multiplexed values of a frame to their places. */

@@ -1,7 +1,7 @@
 /*
  * The reference: document 01 in plain C. Steps are carried out one after the other, through arrays, as the document has
- * them. Single letters are the document's: I, T, E, F, N, P, U, D, Z, V, d, e, q, S; channels, slots, PhCHs and frames
- * n are counted from 0 inside.
+ * them. Single letters are the document's: I, T, E, F, N, P, U, D, Z, V, d, e, q, S, and bs is document 004's; channels,
+ * slots, PhCHs and frames n are counted from 0 inside.
  */
 #include "reference.h"
 
@@ -11,12 +11,13 @@
 
 enum {
     MOST = 60000, /* values of a frame, and of all equalised channels */
-    FIELDS = 283, /* version, mode, I, T; 8 TTI, 8 E, 8 RM; 15 P; 15 times 16 U */
-    FIELD_TTI = 4,
-    FIELD_E = 12,
-    FIELD_RM = 20,
-    FIELD_P = 28,
-    FIELD_U = 43
+    FIELDS = 524, /* version, mode, I, T, uplink; 8 TTI, 8 E, 8 RM; 15 P; 15 times 16 U, as many logarithms */
+    FIELD_TTI = 5,
+    FIELD_E = 13,
+    FIELD_RM = 21,
+    FIELD_P = 29,
+    FIELD_U = 44,
+    FIELD_LOG = 284
 };
 
 struct channel {
@@ -28,12 +29,14 @@ struct channel {
 
 struct slot {
     uint32_t P, U[16];
-    uint32_t bits; /* sum of its U */
+    uint32_t log[16]; /* of the spreading factors, to the base two; in downlink 0 */
+    uint32_t bits;    /* sum of its U */
+    uint32_t bs[2];   /* step 9: consecutive bits of PhCH 1 and 2; all others have 1 */
 };
 
 /* A sheet's fields, and what follows from them. */
 struct form {
-    uint32_t version, mode, I, T;
+    uint32_t version, mode, I, T, uplink;
     struct channel channels[8];
     struct slot slots[15];
     uint32_t contents; /* sum of E */

@@ -1,6 +1,6 @@
 /*
- * The calls of the library once more, in plain C, written from document 01 alone and sharing nothing with the library:
- * what the tests compare it with and what the benchmark measures it by. ref_X takes and answers what umv_X does.
+ * The calls of the library once more, in plain C, written from documents 01, 02 and 004 alone and sharing nothing with the
+ * library: what the tests compare it with and what the benchmark measures it by. ref_X takes and answers what umv_X does.
  */
 #ifndef REFERENCE_H
 #define REFERENCE_H

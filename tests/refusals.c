@@ -1,10 +1,10 @@
-/* Part of calls: refusals of sheets and fields, in the order of their numbers. */
+/* Part of calls: refusals of sheets and fields, in the order of the table. */
 #include <stdio.h>
 #include <string.h>
 
 #include "sheets.h"
 
-/* Sheets with one fault, and with two, of which the lower number is given. */
+/* Sheets with one fault, and with more, of which the first in the order of the table is given. */
 static const struct {
     uint32_t number;
     const char *hex, *what;
@@ -24,7 +24,13 @@ static const struct {
     {4, "10 10 00 06 00 00", "a byte less"},
     {4, "10 10 00 06 00 00 04 00", "a byte more"},
     {4, "10 11 00 06 00 00 04", "last spare bit"},
-    {4, "10 18 00 06 00 00 04", "first spare bit"},
+    {4, "10 14 00 06 00 00 04", "first spare bit"},
+    {4, "10 18 00 06 00 00 04", "uplink bit, without a logarithm"},
+    {4, "10 10 00 06 00 08 00 80", "logarithm, without the uplink bit"},
+    {4, "10 1c 00 06 00 08 00 80", "first spare bit of an uplink sheet"},
+    {4, "10 18 00 06 00 0a 00 81", "padding bit; logarithm 5"},
+    {4, "10 18 00 06 00 24 00 88 01 10 02 00 00", "a byte more; three codes"},
+    {4, "10 18 00 06 00 24 00 88 01 10 02", "a byte less; three codes"},
     {4, "10 10 00 06 00 10 04 00 41", "last padding bit"},
     {4, "10 10 00 06 00 10 04 00 48", "first padding bit"},
     {4, "10 10 00 06 00 00 00 00", "a byte more; capacity 0"},
@@ -39,7 +45,16 @@ static const struct {
     {5, "10f0 000600 0fff 0fff 0fff 0fff 0fff 0fff 0fff 0fff 0fff 0fff 0fff 0fff 0fff 0fff 1fff 0000",
      "last capacity 0; capacities"},
     {5, "10 10 00 00 00 00 00", "capacity 0; no content"},
+    {5, "10 18 00 06 00 0a 00 00", "capacity 0; logarithm 5"},
+    {5, "10 18 00 06 00 24 00 88 00 10 02 00", "second capacity 0; three codes"},
+    {13, "10 18 00 06 00 0a 00 80", "logarithm 5"},
+    {13, "10 18 00 06 00 0e 00 80", "logarithm 7"},
+    {13, "10 18 00 06 00 18 00 94 01 00", "logarithm 5 of the second code"},
+    {13, "10 18 00 06 00 24 00 88 01 10 02 00", "three codes"},
+    {13, "13 18 3fff00 3fff00 3fff00 3fff00 0a 00 80", "logarithm 5; contents"},
+    {13, "10 18 00 00 00 0a 00 80", "logarithm 5; no content"},
     {6, "13 10 3fff00 3fff00 3fff00 3fff00 0004", "contents"},
+    {6, "13 18 3fff00 3fff00 3fff00 3fff00 08 00 80", "contents in uplink"},
     {6, "13f0 3fff00 3fff00 3fff00 3fff00"
         "0fff 0fff 0fff 0fff 0fff 0fff 0fff 0fff 0fff 0fff 0fff 0fff 0fff 0fff 0fff",
      "contents; capacities"},
@@ -47,6 +62,7 @@ static const struct {
     {7, "10f0 000000 0fff 0fff 0fff 0fff 0fff 0fff 0fff 0fff 0fff 0fff 0fff 0fff 0fff 0fff 0fff",
      "capacities; no content"},
     {8, "10 10 00 00 00 00 04", "no content"},
+    {8, "10 18 00 00 00 08 00 80", "no content in uplink"},
     {8, "11 10 c000 ff 0000 00 0004", "no content in two channels"},
 };
 
@@ -60,24 +76,30 @@ static void test_sheet_faults(void)
     subject = "";
 }
 
-enum { U = UMV_FIELD_CAPACITIES, E = UMV_FIELD_E };
+enum { U = UMV_FIELD_CAPACITIES, E = UMV_FIELD_E, P = UMV_FIELD_PHCHS, L = UMV_FIELD_LOGARITHMS };
 
-/* make_fields with up to three fields changed: one fault, and two, of which the lower number is given. */
-static const struct {
+/* Fields with up to three of them changed: one fault, and more, of which the first in the order of the table is given. */
+struct field_fault {
     uint32_t number;
     const char *what;
     unsigned changes;
     struct {
         uint16_t place, value;
     } set[3];
-} field_faults[] = {
+};
+
+/* Of make_fields. */
+static const struct field_fault field_faults[] = {
     {2, "version 0", 1, {{UMV_FIELD_VERSION, 0}}},
     {2, "version 2; no slot", 2, {{UMV_FIELD_VERSION, 2}, {UMV_FIELD_SLOTS, 0}}},
     {2, "version 17; mode 2", 2, {{UMV_FIELD_VERSION, 17}, {UMV_FIELD_MODE, 2}}},
     {3, "no slot", 1, {{UMV_FIELD_SLOTS, 0}}},
     {3, "no slot; mode 2", 2, {{UMV_FIELD_SLOTS, 0}, {UMV_FIELD_MODE, 2}}},
     {3, "no slot; no channel", 2, {{UMV_FIELD_SLOTS, 0}, {UMV_FIELD_CHANNELS, 0}}},
+    {3, "no slot; uplink 2", 2, {{UMV_FIELD_SLOTS, 0}, {UMV_FIELD_UPLINK, 2}}},
     {4, "mode 2", 1, {{UMV_FIELD_MODE, 2}}},
+    {4, "uplink 2", 1, {{UMV_FIELD_UPLINK, 2}}},
+    {4, "uplink 2; capacity 0", 2, {{UMV_FIELD_UPLINK, 2}, {U, 0}}},
     {4, "no channel", 1, {{UMV_FIELD_CHANNELS, 0}}},
     {4, "9 channels", 1, {{UMV_FIELD_CHANNELS, 9}}},
     {4, "16 slots", 1, {{UMV_FIELD_SLOTS, 16}}},
@@ -93,17 +115,35 @@ static const struct {
     {4, "no content; RM 0", 3, {{E, 0}, {E + 1, 0}, {UMV_FIELD_RM, 0}}},
     {5, "capacity 0", 1, {{U + 16 * 2 + 15, 0}}},
     {5, "capacity 0 first", 3, {{U, 0}, {E, 16383}, {E + 1, 16383}}},
+    {13, "three codes in uplink", 1, {{UMV_FIELD_UPLINK, 1}}},
 };
 
-static void test_field_faults(void)
+/* Of make_uplink. */
+static const struct field_fault uplink_faults[] = {
+    {4, "uplink 2; three codes; logarithm 5", 3, {{UMV_FIELD_UPLINK, 2}, {P + 1, 3}, {L, 5}}},
+    {4, "17 codes; logarithm 5", 2, {{P + 1, 17}, {L, 5}}},
+    {4, "no code; logarithm 5", 2, {{P + 1, 0}, {L, 5}}},
+    {4, "logarithm 5; a later U 4,096", 2, {{L, 5}, {U + 16 * 3, 4096}}},
+    {4, "logarithm 65,535; RM 0", 2, {{L, 65535}, {UMV_FIELD_RM, 0}}},
+    {5, "capacity 0; an earlier logarithm 65,535", 2, {{U + 16 * 3, 0}, {L, 65535}}},
+    {5, "capacity 0; three codes", 3, {{U, 0}, {P + 1, 3}, {U + 16 + 2, 1}}},
+    {13, "three codes", 2, {{P + 1, 3}, {U + 16 + 2, 1}}},
+    {13, "logarithm 5 of the last code", 1, {{L + 16 * 3, 5}}},
+    {13, "logarithm 8, whose last 3 bits are 0", 1, {{L + 16 + 1, 8}}},
+    {13, "logarithm 256, whose last byte is 0", 1, {{L + 16 + 1, 256}}},
+    {13, "logarithm 65,535", 1, {{L + 16 * 2 + 1, 65535}}},
+    {13, "logarithm 5; no content", 3, {{L, 5}, {UMV_FIELD_CHANNELS, 1}, {E, 0}}},
+};
+
+static void test_field_faults(const struct field_fault *faults, size_t count, void (*make)(uint16_t *))
 {
-    for (size_t i = 0; i < sizeof field_faults / sizeof *field_faults; i++) {
+    for (size_t i = 0; i < count; i++) {
         uint16_t fields[UMV_FIELDS];
-        make_fields(fields);
-        for (unsigned k = 0; k < field_faults[i].changes; k++)
-            fields[field_faults[i].set[k].place] = field_faults[i].set[k].value;
-        subject = field_faults[i].what;
-        expect_fields_refused(fields, field_faults[i].number);
+        make(fields);
+        for (unsigned k = 0; k < faults[i].changes; k++)
+            fields[faults[i].set[k].place] = faults[i].set[k].value;
+        subject = faults[i].what;
+        expect_fields_refused(fields, faults[i].number);
     }
     subject = "";
 }
@@ -121,7 +161,38 @@ static void test_counts(void)
     expect_fields_refused(fields, UMV_FORM);
 }
 
-/* The sums, 5 to 8, from fields; two at once, of which the lower number is given. */
+/* Two codes in each of 15 uplink slots with 2,000 bits each, and as many channels as make_longest has: just 60,000 bits. */
+static void make_full_uplink(uint16_t *fields)
+{
+    make_longest(fields, 2000);
+    fields[UMV_FIELD_UPLINK] = 1;
+    for (unsigned t = 0; t < 15; t++)
+        fields[UMV_FIELD_PHCHS + t] = 2;
+}
+
+/* In uplink 13 goes before the sums, which are asked as in downlink. */
+static void test_uplink_sums(void)
+{
+    uint16_t fields[UMV_FIELDS];
+    make_longest(fields, 251);
+    fields[UMV_FIELD_UPLINK] = 1;
+    fields[UMV_FIELD_E] = 7501;
+    expect_fields_refused(fields, UMV_UPLINK_CODES); /* and contents and capacities over 60,000 */
+    make_full_uplink(fields);
+    struct sheet sheet = sheet_with(fields);
+    expect_fields_written(fields, &sheet);
+    fields[UMV_FIELD_CAPACITIES + 16 * 14 + 1] = 2001;
+    expect_fields_refused(fields, UMV_MUCH_CAPACITY);
+    fields[UMV_FIELD_E] = 7501;
+    expect_fields_refused(fields, UMV_MUCH_CONTENT); /* and capacities over 60,000 */
+    fields[UMV_FIELD_LOGARITHMS + 16 * 14 + 1] = 5;
+    expect_fields_refused(fields, UMV_UPLINK_CODES); /* and both */
+    make_full_uplink(fields);
+    memset(fields + UMV_FIELD_E, 0, 8 * sizeof *fields);
+    expect_fields_refused(fields, UMV_NO_CONTENT);
+}
+
+/* The sums, 5 to 8, from fields; two at once, of which the first in the order of the table is given. */
 static void test_field_sums(void)
 {
     uint16_t fields[UMV_FIELDS];
@@ -143,30 +214,31 @@ static void test_field_sums(void)
     expect_fields_written(fields, &sheet);
 }
 
-/* The number for make_fields with `value`, 65,535 or 0, at a place. */
+/* The number for fields that are accepted, with `value`, 65,535 or 0, at a place. */
 static uint32_t number_at(const uint16_t *fields, unsigned place, uint16_t value)
 {
+    bool of_logs = place >= UMV_FIELD_LOGARITHMS;
     if (!in_use(fields, place))
         return UMV_OK;
     if (place == UMV_FIELD_VERSION)
         return UMV_VERSION;
     if (value != 0)
-        return UMV_FORM;
+        return of_logs ? UMV_UPLINK_CODES : UMV_FORM;
     if (place == UMV_FIELD_SLOTS)
         return UMV_NO_SLOT;
     if (place >= UMV_FIELD_CAPACITIES)
-        return UMV_NO_CAPACITY;
-    bool may_be_zero = place == UMV_FIELD_MODE || (place >= UMV_FIELD_TTI && place < UMV_FIELD_RM);
+        return of_logs ? UMV_OK : UMV_NO_CAPACITY;
+    bool may_be_zero = place == UMV_FIELD_MODE || place == UMV_FIELD_UPLINK || (place >= UMV_FIELD_TTI && place < UMV_FIELD_RM);
     return may_be_zero ? UMV_OK : UMV_FORM;
 }
 
 /* 65,535 and 0 in each of the places, one by one. */
-static void test_each_place(uint16_t value)
+static void test_each_place(void (*make)(uint16_t *), uint16_t value)
 {
     static char name[40];
     for (unsigned place = 0; place < UMV_FIELDS; place++) {
         uint16_t fields[UMV_FIELDS];
-        make_fields(fields);
+        make(fields);
         uint32_t number = number_at(fields, place, value);
         fields[place] = value;
         snprintf(name, sizeof name, "%u at place %u", value, place);
@@ -182,10 +254,10 @@ static void test_each_place(uint16_t value)
     subject = "";
 }
 
-/* Fields that are not 283 draw 11 and are not looked at, whatever else is wrong. */
+/* Fields that are not 524 draw 11 and are not looked at, whatever else is wrong: the 283 of release 1 too. */
 static void test_field_count(void)
 {
-    static const size_t counts[] = {0, 1, 282, 284};
+    static const size_t counts[] = {0, 1, 283, 523, 525};
     uint16_t good[UMV_FIELDS + 1], bad[UMV_FIELDS + 1] = {0};
     uint8_t sheet[7] = {1, 2, 3, 4, 5, 6, 7}, before[7];
     memcpy(before, sheet, sizeof sheet);
@@ -226,11 +298,15 @@ static void test_null(void)
 void test_refusals(void)
 {
     test_sheet_faults();
-    test_field_faults();
+    test_field_faults(field_faults, sizeof field_faults / sizeof *field_faults, make_fields);
+    test_field_faults(uplink_faults, sizeof uplink_faults / sizeof *uplink_faults, make_uplink);
     test_counts();
     test_field_sums();
-    test_each_place(65535);
-    test_each_place(0);
+    test_uplink_sums();
+    test_each_place(make_fields, 65535);
+    test_each_place(make_fields, 0);
+    test_each_place(make_uplink, 65535);
+    test_each_place(make_uplink, 0);
     test_field_count();
     test_absent_channel();
     test_null();

@@ -88,9 +88,8 @@ struct sheet sheet_with(const uint16_t *fields)
     return sheet;
 }
 
-void make_fields(uint16_t *fields)
+static void make_slots(uint16_t *fields, const uint16_t *phchs)
 {
-    static const uint16_t phchs[4] = {1, 3, 16, 2};
     memset(fields, 0, UMV_FIELDS * sizeof *fields);
     fields[UMV_FIELD_VERSION] = 1;
     fields[UMV_FIELD_MODE] = 1;
@@ -106,6 +105,21 @@ void make_fields(uint16_t *fields)
         for (unsigned p = 0; p < phchs[t]; p++)
             fields[UMV_FIELD_CAPACITIES + 16 * t + p] = (uint16_t)(17 * t + p + 1);
     }
+}
+
+void make_fields(uint16_t *fields)
+{
+    static const uint16_t phchs[4] = {1, 3, 16, 2};
+    make_slots(fields, phchs);
+}
+
+void make_uplink(uint16_t *fields)
+{
+    static const uint16_t phchs[4] = {1, 2, 2, 1}, logs[4][2] = {{4}, {3, 2}, {1, 4}, {0}};
+    make_slots(fields, phchs);
+    fields[UMV_FIELD_UPLINK] = 1;
+    for (unsigned t = 0; t < 4; t++)
+        memcpy(&fields[UMV_FIELD_LOGARITHMS + 16 * t], logs[t], sizeof logs[t]);
 }
 
 void make_longest(uint16_t *fields, uint16_t capacity)

@@ -49,7 +49,10 @@ struct sheet sheet_with(const uint16_t *fields);
 /* 3 channels, 4 slots of 1, 3, 16 and 2 PhCHs, zeros past the counts. */
 void make_fields(uint16_t *fields);
 
-/* The longest: 8 channels, 15 slots, 16 PhCHs each, and with `capacity` 250 just 60,000 bits. */
+/* The same channels in uplink: 4 slots of 1, 2, 2 and 1 codes, with each logarithm once at least. */
+void make_uplink(uint16_t *fields);
+
+/* The longest that is accepted: 8 channels, 15 slots, 16 PhCHs each, and with `capacity` 250 just 60,000 bits. */
 void make_longest(uint16_t *fields, uint16_t capacity);
 
 /* These fields draw `number` from both calls that take fields, whatever room is lent, and nothing is written. */

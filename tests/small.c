@@ -32,6 +32,18 @@ static void draw_slots(uint16_t *fields)
     }
 }
 
+/* Uplink: one or two codes of any spreading factors. */
+static void draw_codes(uint16_t *fields)
+{
+    fields[UMV_FIELD_UPLINK] = 1;
+    for (uint32_t t = 0; t < fields[UMV_FIELD_SLOTS]; t++) {
+        uint16_t *phchs = &fields[UMV_FIELD_PHCHS + t];
+        *phchs = *phchs > 2 ? 2 : *phchs;
+        for (uint32_t p = 0; p < *phchs; p++)
+            fields[UMV_FIELD_LOGARITHMS + 16 * t + p] = (uint16_t)between(0, 4);
+    }
+}
+
 void draw_small(uint16_t *fields)
 {
     memset(fields, 0, UMV_FIELDS * sizeof *fields);
@@ -39,4 +51,6 @@ void draw_small(uint16_t *fields)
     fields[UMV_FIELD_MODE] = (uint16_t)between(0, 1);
     draw_channels(fields);
     draw_slots(fields);
+    if (one_in(2))
+        draw_codes(fields);
 }

@@ -26,7 +26,7 @@ enum {
 /* What must be met; a rounding counts where down and up differ. FRAMES_1 and so on stand in the order of the TTIs. */
 enum met {
     EMPTY, PUNCTURED, UNALTERED, REPEATED, ALL_PUNCTURED, FEW_PUNCTURED, MANY_PUNCTURED, SEVERAL_TIMES, ONE_BIT, LONG,
-    LONGEST_REPEATED, LONGEST_PUNCTURED, FRAMES_1, FRAMES_2, FRAMES_4, FRAMES_8, LATER_FRAME, NO_BIT, ALL_BITS,
+    LONGEST_REPEATED, LONGEST_PUNCTURED, FRAMES_1, FRAMES_2, FRAMES_4, FRAMES_8, LATER_FRAME, RUNS, NO_BIT, ALL_BITS,
     DROPPED_DOWN, DROPPED_UP, EXTRA_DOWN, EXTRA_UP, GAP_DOWN, GAP_UP, COPIES_APART, KINDS
 };
 
@@ -48,6 +48,7 @@ static const char *const kinds[KINDS] = {
     [FRAMES_4] = "F = 4",
     [FRAMES_8] = "F = 8",
     [LATER_FRAME] = "a later frame of a TTI",
+    [RUNS] = "an uplink slot of two codes with unequal factors",
     [NO_BIT] = "L = 0",
     [ALL_BITS] = "L = N",
     [DROPPED_DOWN] = "punctured bits rounded down",
@@ -64,7 +65,7 @@ static unsigned long met[KINDS], segments, stretches;
 /* ---- The frame at work ---- */
 
 static uint16_t fields[UMV_FIELDS];
-static uint8_t sheet[UMV_SHEET_MOST];
+static uint8_t sheet[UMV_SHEET_FORM_MOST];
 static size_t sheet_len;
 static uint32_t frame_number, places;
 static float soft[MOST_PLACES]; /* what was received does not matter here */
@@ -90,6 +91,7 @@ static void draw(unsigned long which)
     draw_small(fields);
     if (which <= 2) {
         make_single(0, MOST_N, between(1, 4095));
+        fields[UMV_FIELD_UPLINK] = 0;
         if (which == 1)
             fill_slots(fields, 250);
     } else if (one_in(20)) {
@@ -218,6 +220,8 @@ static void count_segment(uint32_t i)
     met[ONE_BIT] += n == 1;
     met[FRAMES_1 + fields[UMV_FIELD_TTI + i]]++;
     met[LATER_FRAME] += frame_number % (1u << fields[UMV_FIELD_TTI + i]) != 0;
+    met[RUNS] += fields[UMV_FIELD_UPLINK] == 1 && fields[UMV_FIELD_PHCHS] == 2 &&
+                 fields[UMV_FIELD_LOGARITHMS] != fields[UMV_FIELD_LOGARITHMS + 1];
     check_stretches();
     check_relied();
 }

@@ -1,7 +1,7 @@
 -- Each test of the table of numbers holds exactly when the table's line does.
-use mathlib.Core.Path.{_≡_, sym, ap, _∙_}
+use mathlib.Core.Path.{_≡_, sym, ap, ap₂, _∙_}
 use mathlib.Core.Logic.{_↔_, _≢_, _⊎_, inl, inr, ⊎-elim}
-use mathlib.Core.Bool.{Bool, true, false, not, _||_, true≢false}
+use mathlib.Core.Bool.{Bool, true, false, not, _&&_, _||_, true≢false}
 use mathlib.Core.List.{List}
 use Prim.Native.Nat.{ℕ, _-_, _<_}
 use native.Mathlib.Omega.{arith}
@@ -12,11 +12,11 @@ use lib.ListN.{length, getD}
 use Rattle.laws.specs.Sums.{anyTo}
 use Rattle.laws.specs.FirstFail.{firstFail}
 use Rattle.laws.proofs.SumLaws.{any-hit, any-none, any-each, any-in}
-use Rattle.laws.proofs.TestLaws.{or-sides, of-sides, is-false, split}
+use Rattle.laws.proofs.TestLaws.{or-sides, of-sides, and-left, and-right, is-false, split}
 use Rattle.laws.proofs.FirstFailLaws.{fail-fails, fail-passes}
-use Rattle.sheet.specs.Fields.{encodedOf, phchsOf, capacityOf}
+use Rattle.sheet.specs.Fields.{encodedOf, phchsOf, capacityOf, logOf}
 use Rattle.sheet.specs.Sizes.{sizeOf}
-use Rattle.sheet.specs.Numbers.{emptyPlace, silent}
+use Rattle.sheet.specs.Numbers.{emptyPlace, slotBeyond, beyondUplink, silent}
 use Rattle.sheet.specs.declared.Sheet.{Sheet}
 use Rattle.writing.specs.Numbers.{outside, channelOutside, slotOutside, fieldOutside}
 use Rattle.frame.specs.Bit.{isBit}
@@ -25,7 +25,7 @@ use Rattle.naming.proofs.ExistLaws.{exists}
 use Rattle.joining.specs.Range.{inRange}
 use Rattle.looking.specs.Looking.{noTrch}
 use Rattle.receiving.specs.Listening.{noBit}
-use Rattle.demands.specs.Table.{NotFrom, BadChannel, BadSlot, BadField, NoCapacity, NoBits, MissingTrch, MissingPlace, MissingBit, BadByte, BadSoft, SomeOf}
+use Rattle.demands.specs.Table.{NotFrom, BadChannel, BadSlot, BadField, NoCapacity, BadUplink, NoBits, MissingTrch, MissingPlace, MissingBit, BadByte, BadSoft, SomeOf}
 
 pub below : (a b : ℕ) → (ltb a b ≡ true) ↔ (a < b)
 below a b = (ltb-true a b, lt-ltb a b)
@@ -39,6 +39,9 @@ other a b = (λ e. eqb-false a b (not-true (eqb a b) e), λ h. ap not (ne-eqb a 
 pub either : {a b : Bool} {P Q : Type 0} → (a ≡ true) ↔ P → (b ≡ true) ↔ Q → (a || b ≡ true) ↔ (P ⊎ Q)
 either {a} {b} p q =
     (λ e. ⊎-elim (λ x. inl (p .0 x)) (λ y. inr (q .0 y)) (or-sides a b e), λ h. of-sides a b (⊎-elim (λ x. inl (p .1 x)) (λ y. inr (q .1 y)) h))
+
+both : {a b : Bool} {P Q : Type 0} → (a ≡ true) ↔ P → (b ≡ true) ↔ Q → (a && b ≡ true) ↔ (P × Q)
+both {a} {b} p q = (λ e. (p .0 (and-left a b e), q .0 (and-right a b e)), λ h. ap₂ _&&_ (p .1 (h .0)) (q .1 (h .1)))
 
 -- the second of two tests never holds
 pub only : {a : Bool} {P : Type 0} → (a ≡ true) ↔ P → (a || false ≡ true) ↔ P
@@ -65,12 +68,19 @@ slot-means sh t = either (not-from _ _ _) (some _ (phchsOf sh t) (λ p. below _ 
 pub field-means : (sh : Sheet) → (fieldOutside sh ≡ true) ↔ BadField sh
 field-means sh =
     either (below _ _)
+    (either (below _ _)
     (either (not-from _ _ _)
-    (either (below _ _) (either (some _ (sh .channels) (channel-means sh)) (some _ (sh .slots) (slot-means sh)))))
+    (either (below _ _) (either (some _ (sh .channels) (channel-means sh)) (some _ (sh .slots) (slot-means sh))))))
 
 -- 5
 pub empty-means : (sh : Sheet) → (emptyPlace sh ≡ true) ↔ NoCapacity sh
 empty-means sh = some _ (sh .slots) (λ t. some _ (phchsOf sh t) (λ p. same (capacityOf sh t p) 0))
+
+-- 13
+pub uplink-means : (sh : Sheet) → (beyondUplink sh ≡ true) ↔ BadUplink sh
+uplink-means sh =
+    both (other (sh .uplink) 0)
+    (some (λ t. slotBeyond (sh .logs) t (phchsOf sh t)) (sh .slots) (λ t. either (below 2 (phchsOf sh t)) (some _ (phchsOf sh t) (λ p. below 4 (logOf sh t p)))))
 
 -- 8
 pub silent-means : (sh : Sheet) → (silent sh ≡ true) ↔ NoBits sh

@@ -34,7 +34,7 @@ use Rattle.interleaving.specs.First.{segmentOf}
 use Rattle.interleaving.specs.Second.{secondInterleaved}
 use Rattle.interleaving.proofs.FirstLaws.{segment-length, segment-at, segment-map}
 use Rattle.interleaving.proofs.SecondLaws.{second-length, second-map}
-use Rattle.mapping.specs.Mapping.{ones, at, slotSize}
+use Rattle.mapping.specs.Mapping.{at, slotSize}
 use Rattle.mapping.proofs.MappedLaws.{mapped-length, mapped-map}
 use Rattle.opening.proofs.OpenLaws.{weighs}
 use Rattle.frame.specs.Frame.{startAt, sentOf, multiplexed, capsOf, runsOf, slotStart, subframeStart, slotPart, slotShare, sharePart, slotBits, slotMapped, spread, frameOf}
@@ -141,17 +141,6 @@ module _ (sh : Sheet) (ok : Accepted sh) (t : ℕ) (l : t < sh .slots) where
 
   pub caps-size : slotSize (capsOf sh t) ≡ slotCapacity sh t
   caps-size = ap (sumTo (at (capsOf sh t))) caps-length ∙ sum-same (at (capsOf sh t)) (capacityOf sh t) (phchsOf sh t) (caps-at sh t)
-
--- ---- sub-frames and runs
-
--- bits go one at a time, so that a run is never empty
-pub runs-ones : (sh : Sheet) (t : ℕ) → runsOf sh t ≡ ones
-unfolding runsOf
-runs-ones sh t = refl
-
-pub runs-some : (sh : Sheet) (t p : ℕ) → 0 < runsOf sh t p
-unfolding runsOf
-runs-some sh t p = omega arith
 
 -- ---- steps 8 and 9
 

@@ -1,4 +1,5 @@
 pub mod FrameLaws
+pub mod TurnLaws
 pub mod ContentLaws
 pub mod SpreadLaws
 pub mod SendLaws

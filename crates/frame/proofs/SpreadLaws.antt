@@ -23,12 +23,15 @@ use Rattle.sheet.specs.declared.Sheet.{Sheet}
 use Rattle.sheet.proofs.SizeLaws.{one-subframe, capacity-one}
 use Rattle.interleaving.specs.Second.{secondInterleaved}
 use Rattle.interleaving.proofs.SecondLaws.{second-length}
-use Rattle.mapping.specs.Mapping.{at, ones, slotSize, slotOf, Slot}
+use Rattle.mapping.specs.Mapping.{at, inRuns, slotSize, slotOf}
+use Rattle.mapping.specs.Runs.{Coded}
+use Rattle.mapping.specs.declared.Runs.{Runs}
 use Rattle.mapping.proofs.MappedLaws.{mapped-length, mapped-over}
 use Rattle.frame.specs.Frame.{capsOf, runsOf, slotStart, slotPart, slotShare, sharePart, inSlots, slotBits, slotMapped, interleavedSlots, interleavedBits, mappedSlots, spread}
-use Rattle.frame.specs.Slots.{Spanned, Spans, Slotwise}
+use Rattle.frame.specs.Slots.{Spanned, Spans, RunsAt, Slotwise}
 use Rattle.frame.specs.declared.spreading.Span.{Span}
-use Rattle.frame.proofs.FrameLaws.{runs-ones, caps-size, length-share, length-share-made}
+use Rattle.frame.proofs.FrameLaws.{caps-size, length-share, length-share-made}
+use Rattle.frame.proofs.TurnLaws.{runs-some, turned-coded}
 
 -- ---- slot after slot: what a loop holds
 
@@ -116,22 +119,23 @@ module _ (sh : Sheet) (t : ℕ) {a : ℕ} (ea : a ≡ slotStart sh t) {most : �
 
   -- step 9: what is asked of a slot, and what it is made of its part of the bits, whatever stood there
   module _ (ok : Accepted sh) (l : t < sh .slots) where
-    pub slot-fits : {A B : Type 0} (bits : List A) (out : List B) → length bits ≡ capacityAll sh → length out ≡ capacityAll sh
-        → Slot (take (s .to - s .from) (drop (s .from) (sh .caps))) (length (take (s .end - a) (drop a bits))) (length (take (s .end - a) (drop a out)))
-    slot-fits bits out n m = rw caps-lent (record { bits = lent-size bits l n ok; room = lent-size out l m ok })
+    pub slot-fits : {A B : Type 0} (bits : List A) (out : List B) → length bits ≡ capacityAll sh → length out ≡ capacityAll sh → {r : Runs} → RunsAt sh t r
+        → Coded (take (s .to - s .from) (drop (s .from) (sh .caps))) (r .first) (r .other) (length (take (s .end - a) (drop a bits)))
+        (length (take (s .end - a) (drop a out)))
+    slot-fits bits out n m k = rw caps-lent (turned-coded sh t ok l k (record { bits = lent-size bits l n ok; room = lent-size out l m ok }))
 
-    pub slot-made : (bits out : List ℕ) → length bits ≡ capacityAll sh → length out ≡ capacityAll sh → {y : List ℕ}
-        → y ≡ slotOf ones (take (s .to - s .from) (drop (s .from) (sh .caps))) (take (s .end - a) (drop a bits)) (take (s .end - a) (drop a out))
+    pub slot-made : (bits out : List ℕ) → length bits ≡ capacityAll sh → length out ≡ capacityAll sh → {r : Runs} → RunsAt sh t r → {y : List ℕ}
+        → y ≡ slotOf (inRuns (r .first) (r .other)) (take (s .to - s .from) (drop (s .from) (sh .caps))) (take (s .end - a) (drop a bits)) (take (s .end - a) (drop a out))
         → (length y ≡ s .end - a) × (y ≡ slotMapped sh t (slotPart sh 0 t bits))
-    slot-made bits out n m {y} e =
+    slot-made bits out n m {r} k {y} e =
         let b = take (s .end - a) (drop a bits) in
         let o = take (s .end - a) (drop a out) in
-        let q : y ≡ slotOf ones (capsOf sh t) b o = rw caps-lent at e in (
-          ap length q ∙ mapped-length (at (capsOf sh t)) ones (length (capsOf sh t)) b o ∙ lent-long out l m,
+        let q : y ≡ slotOf (runsOf sh t) (capsOf sh t) b o = rw (caps-lent, ← k .runs) at e in (
+          ap length q ∙ mapped-length (at (capsOf sh t)) (runsOf sh t) (length (capsOf sh t)) b o ∙ lent-long out l m,
           q
-              ∙ mapped-over (at (capsOf sh t)) ones (length (capsOf sh t)) (λ k h. omega arith) 0 b o b (lent-size bits l n ok) (lent-size out l m ok)
-              (lent-size bits l n ok)
-              ∙ ap₂ (λ (B : ℕ → ℕ) (x : List ℕ). slotOf B (capsOf sh t) x x) (sym (runs-ones sh t)) (part-lent bits),
+              ∙ mapped-over (at (capsOf sh t)) (runsOf sh t) (length (capsOf sh t)) (λ j h. runs-some sh t j) 0 b o b (lent-size bits l n ok)
+              (lent-size out l m ok) (lent-size bits l n ok)
+              ∙ ap (slotMapped sh t) (part-lent bits),
         )
 
 -- the slots of one sub-frame are the frame

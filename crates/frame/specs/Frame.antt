@@ -1,14 +1,14 @@
 -- A frame of anything: steps 1 to 9 of document 01, one after the other, for elements of any type. Channels, sub-frames and slots are counted
 -- from 0 here.
-use mathlib.Core.Bool.{cond}
+use mathlib.Core.Bool.{Bool, cond, not, _&&_}
 use mathlib.Core.List.{List}
-use Prim.Native.Nat.{ℕ, _+_, _*_, _%_}
+use Prim.Native.Nat.{ℕ, _+_, _*_, _%_, _^_}
 use lib.Dec.{eqb}
 use lib.ListN.{take, drop}
 use Rattle.laws.specs.Sums.{sumTo}
 use Rattle.laws.specs.Joined.{joined, inRows}
-use Rattle.sheet.specs.Counts.{mostCodes}
-use Rattle.sheet.specs.Fields.{ttiOf, encodedOf, phchsOf}
+use Rattle.sheet.specs.Counts.{mostCodes, mostPaired}
+use Rattle.sheet.specs.Fields.{ttiOf, encodedOf, phchsOf, logOf}
 use Rattle.sheet.specs.Sizes.{framesOf, sizeOf, slotCapacity, placesAll, subframesOf}
 use Rattle.sheet.specs.declared.Sheet.{Sheet}
 use Rattle.matching.specs.Shares.{changeOf}
@@ -17,7 +17,7 @@ use Rattle.pattern.specs.Pattern.{asIs}
 use Rattle.pattern.specs.Text.{matchedText}
 use Rattle.interleaving.specs.First.{equalised, segmentOf}
 use Rattle.interleaving.specs.Second.{secondInterleaved}
-use Rattle.mapping.specs.Mapping.{slotOf}
+use Rattle.mapping.specs.Mapping.{ones, firstRun, secondRun, inRuns, slotOf}
 
 -- step 5: e of channel i in a frame
 unfoldable pub startAt : Sheet → ℕ → ℕ → ℕ
@@ -32,12 +32,21 @@ sentOf f sh frame i t =
 unfoldable pub multiplexed : {A B : Type 0} → (A → ℕ → B) → Sheet → ℕ → (ℕ → List A) → List B
 multiplexed f sh frame ts = joined (λ i. sentOf f sh frame i (ts i)) (sh .channels)
 
--- the capacities of slot t, and in what runs each of its physical channels takes its bits
+-- the capacities of slot t
 unfoldable pub capsOf : Sheet → ℕ → List ℕ
 capsOf sh t = take (phchsOf sh t) (drop (mostCodes * t) (sh .caps))
 
+-- whether slot t is an uplink one of two physical channels, and the spreading factor of its physical channel p
+abbrev pub pairedIn : Sheet → ℕ → Bool
+pairedIn sh t = not (eqb (sh .uplink) 0) && eqb (phchsOf sh t) mostPaired
+
+abbrev pub factorOf : Sheet → ℕ → ℕ → ℕ
+factorOf sh t p = 2 ^ logOf sh t p
+
+-- how many bits each physical channel of slot t takes at its turn: of such a pair, by the spreading factors, and else one
 unfoldable pub runsOf : Sheet → ℕ → ℕ → ℕ
-runsOf sh t p = 1
+runsOf sh t =
+    cond (pairedIn sh t) (inRuns (firstRun (factorOf sh t 0) (factorOf sh t 1)) (secondRun (factorOf sh t 0) (factorOf sh t 1))) ones
 
 -- where slot t begins in its sub-frame, and where sub-frame h begins in the frame
 abbrev pub slotStart : Sheet → ℕ → ℕ

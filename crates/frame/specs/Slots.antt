@@ -1,14 +1,19 @@
 -- How the code goes along the slots of a frame, one after the other.
 use mathlib.Core.Path.{_≡_}
 use mathlib.Core.List.{List}
+use mathlib.Core.Logic.{_⊎_}
 use Prim.Native.Nat.{ℕ, _+_, _*_, _≤_, _<_}
 use lib.ListN.{length, getD}
 use Rattle.laws.specs.Laid.{Laid}
 use Rattle.laws.specs.Joined.{joined}
-use Rattle.sheet.specs.Counts.{mostSlots, mostCodes, mostCapacities}
+use Rattle.sheet.specs.Counts.{mostSlots, mostCodes, mostPaired, mostCapacities}
+use Rattle.sheet.specs.Fields.{phchsOf}
 use Rattle.sheet.specs.Numbers.{slotLoad}
 use Rattle.sheet.specs.declared.Sheet.{Sheet}
-use Rattle.frame.specs.Frame.{slotStart}
+use Rattle.mapping.specs.Mapping.{inRuns}
+use Rattle.mapping.specs.Runs.{Short}
+use Rattle.mapping.specs.declared.Runs.{Runs}
+use Rattle.frame.specs.Frame.{runsOf, slotStart}
 use Rattle.frame.specs.declared.spreading.Span.{Span}
 
 -- slot t by the arrays of a sheet: it exists, and its part, which begins at a, ends at `most` or before
@@ -25,6 +30,12 @@ pub record Spans (phchs caps : List ℕ) (t a most : ℕ) (s : Span) : Type 0 wh
   pub end : s .end ≡ a + slotLoad caps (mostCodes * t) (getD phchs t 0) .sum
   pub within : s .end ≤ most
   pub next : s .next ≡ t + 1
+
+-- r says how many bits each physical channel of slot t takes at its turn, which is one where there are more than two
+pub record RunsAt (sh : Sheet) (t : ℕ) (r : Runs) : Type 0 where
+  pub runs : runsOf sh t ≡ inRuns (r .first) (r .other)
+  pub short : Short (r .first) (r .other)
+  pub few : (phchsOf sh t ≤ mostPaired) ⊎ ((r .first ≡ 1) × (r .other ≡ 1))
 
 -- the list that was o begins with what is made of the first t slots, up to a
 pub record Slotwise {A : Type 0} (sh : Sheet) (made : ℕ → List A) (o out : List A) (t a : ℕ) : Type 0 where

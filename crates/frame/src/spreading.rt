@@ -1,14 +1,18 @@
 // Steps 8 and 9: the multiplexed bits interleaved, and mapped slot after slot.
 ghost use mathlib.Core.Path.{_≡_};
+ghost use Prim.Native.Nat.{_<_};
 ghost use lib.ListN.{length};
 ghost use Rattle.sheet.specs.Sizes.{capacityAll};
 ghost use Rattle.sheet.specs.Range.{Accepted};
 ghost use Rattle.frame.specs.Frame.{interleavedSlots, interleavedBits, mappedSlots, spread};
-ghost use Rattle.frame.specs.Slots.{Spanned, Spans};
+ghost use Rattle.frame.specs.Slots.{Spanned, Spans, RunsAt};
+use mapping::Runs;
+use mapping::runs_of;
 use sheet::Sheet;
 use sheet::count;
 use sheet::counts::CAPACITIES;
 use sheet::counts::CODES;
+use sheet::counts::PAIRED;
 use sheet::counts::SLOTS;
 use sheet::sizes::slot_load;
 
@@ -45,6 +49,22 @@ pub fn span_of<'a>(
     }
 }
 
+// How many bits each physical channel of slot t takes at its turn.
+pub fn runs_at(fields: Sheet, t: usize) -> Runs
+    requires { ⌜ Accepted fields × (t < fields .slots) ⌝ }
+    ensures { λ r. ⌜ RunsAt fields t r ⌝ }
+{
+    if fields.uplink == 0 {
+        return Runs { first: 1, other: 1 };
+    }
+    let phchs = fields.phchs;
+    if count(phchs[t]) != PAIRED {
+        return Runs { first: 1, other: 1 };
+    }
+    let logs = fields.logs;
+    runs_of(logs[PAIRED * t], logs[PAIRED * t + 1])
+}
+
 // Mode 1: each slot's part interleaved by itself.
 fn interleave_slots(bits: &[u8], fields: Sheet, out: &mut [u8])
     requires { ⌜ Accepted fields × (length (now bits) ≡ capacityAll fields) × (length (now out) ≡ capacityAll fields) ⌝ }
@@ -73,11 +93,12 @@ fn map_slots(bits: &[u8], fields: Sheet, out: &mut [u8])
     let mut t: usize = 0;
     let mut a: usize = 0;
     while t < count(fields.slots) {
+        let runs = runs_at(fields, t);
         let s = span_of(&phchs, &caps, t, a, out.len());
         let from = s.from;
         let to = s.to;
         let e = s.end;
-        mapping::map_slot(&bits[a..e], &caps[from..to], &mut out[a..e]);
+        mapping::map_slot(&bits[a..e], &caps[from..to], runs, &mut out[a..e]);
         a = e;
         t = s.next;
     }

@@ -19,12 +19,14 @@ use Rattle.sheet.specs.declared.Sheet.{Sheet}
 use Rattle.sheet.proofs.SizeLaws.{one-subframe}
 use Rattle.interleaving.specs.Second.{secondInterleaved, secondUndone}
 use Rattle.interleaving.proofs.SecondLaws.{second-length, undone-length, second-undone, second-redone}
-use Rattle.mapping.specs.Mapping.{at, ones, slotSize, slotUndone}
+use Rattle.mapping.specs.Mapping.{at, inRuns, slotSize, slotUndone}
+use Rattle.mapping.specs.declared.Runs.{Runs}
 use Rattle.mapping.proofs.MappedLaws.{unmapped-length, unmapped-mapped, mapped-unmapped}
 use Rattle.frame.specs.Frame.{capsOf, runsOf, slotStart, slotPart, slotShare, sharePart, inSlots, slotMapped, interleavedSlots, interleavedBits, mappedSlots, spread}
-use Rattle.frame.specs.Slots.{Spans}
+use Rattle.frame.specs.Slots.{Spans, RunsAt}
 use Rattle.frame.specs.declared.spreading.Span.{Span}
-use Rattle.frame.proofs.FrameLaws.{runs-ones, runs-some, caps-size, length-slot-part, length-share, length-share-made, length-mapped, spread-map}
+use Rattle.frame.proofs.FrameLaws.{caps-size, length-slot-part, length-share, length-share-made, length-mapped, spread-map}
+use Rattle.frame.proofs.TurnLaws.{runs-some}
 use Rattle.frame.proofs.SpreadLaws.{caps-lent, part-lent, lent-long, spread-is}
 use Rattle.homing.specs.Gather.{slotUnmapped, unmappedSlots, undoneSlots, undoneBits, gathered}
 
@@ -37,11 +39,12 @@ length-taken z sh ok t p l = unmapped-length (at (capsOf sh t)) (runsOf sh t) (l
 module _ {A : Type 0} (z : A) (sh : Sheet) (t : ℕ) {a : ℕ} (ea : a ≡ slotStart sh t) {most : ℕ} {s : Span} (p : Spans (sh .phchs) (sh .caps) t a most s) (l : t < sh .slots)
     (xs : List A) (full : length xs ≡ capacityAll sh) where
   -- step 9 undone of a slot, by the capacities and the part as the code lends them
-  pub slot-taken : Accepted sh → {y : List A} → y ≡ slotUndone ones (take (s .to - s .from) (drop (s .from) (sh .caps))) z (take (s .end - a) (drop a xs))
+  pub slot-taken : Accepted sh → {r : Runs} → RunsAt sh t r → {y : List A}
+      → y ≡ slotUndone (inRuns (r .first) (r .other)) (take (s .to - s .from) (drop (s .from) (sh .caps))) z (take (s .end - a) (drop a xs))
       → (length y ≡ s .end - a) × (y ≡ slotUnmapped z sh t (slotPart sh 0 t xs))
-  slot-taken ok {y} e =
+  slot-taken ok k {y} e =
       let q : y ≡ slotUnmapped z sh t (slotPart sh 0 t xs) =
-      e ∙ rw (caps-lent sh t ea p) (ap₂ (λ (B : ℕ → ℕ) (w : List A). slotUndone B (capsOf sh t) z w) (sym (runs-ones sh t)) (part-lent sh t ea p xs)) in
+      e ∙ rw (caps-lent sh t ea p) (ap₂ (λ (B : ℕ → ℕ) (w : List A). slotUndone B (capsOf sh t) z w) (sym (k .runs)) (part-lent sh t ea p xs)) in
       (ap length q ∙ length-taken z sh ok t (slotPart sh 0 t xs) l ∙ omega (arith, p .end), q)
 
   -- step 8 undone of a slot

@@ -5,6 +5,7 @@ ghost use lib.ListN.{length};
 ghost use Rattle.sheet.specs.Sizes.{capacityAll};
 ghost use Rattle.sheet.specs.Range.{Accepted};
 ghost use Rattle.homing.specs.Gather.{unmappedSlots, undoneSlots, undoneBits, gathered};
+use frame::spreading::runs_at;
 use frame::spreading::span_of;
 use sheet::Sheet;
 use sheet::count;
@@ -19,11 +20,12 @@ fn unmap_slots(frame: &[f32], fields: Sheet, out: &mut [f32])
     let mut t: usize = 0;
     let mut a: usize = 0;
     while t < count(fields.slots) {
+        let runs = runs_at(fields, t);
         let s = span_of(&phchs, &caps, t, a, out.len());
         let from = s.from;
         let to = s.to;
         let e = s.end;
-        mapping::unmap_slot(&frame[a..e], &caps[from..to], &mut out[a..e]);
+        mapping::unmap_slot(&frame[a..e], &caps[from..to], runs, &mut out[a..e]);
         a = e;
         t = s.next;
     }

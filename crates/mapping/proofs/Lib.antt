@@ -6,3 +6,7 @@ pub mod MappedLaws
 pub mod StrideLaws
 pub mod DoneLaws
 pub mod WalkLaws
+pub mod RunLaws
+pub mod LineLaws
+pub mod PairLaws
+pub mod SlotLaws

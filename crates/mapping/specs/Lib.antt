@@ -1,2 +1,4 @@
 pub mod Mapping
 pub mod Strides
+pub mod Runs
+pub mod Pairs

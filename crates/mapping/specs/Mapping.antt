@@ -6,7 +6,7 @@ use mathlib.Core.Bool.{cond}
 use mathlib.Core.List.{List, [], _∷_}
 use Prim.Native.Nat.{ℕ, zero, suc, min, _+_, _-_, _*_, _/_, _%_}
 use lib.ListN.{getD, set, length}
-use lib.Dec.{eqb}
+use lib.Dec.{eqb, ltb}
 use Rattle.laws.specs.Sums.{sumTo, sumFrom}
 use Rattle.laws.specs.Tables.{table}
 
@@ -96,6 +96,18 @@ filledAs u number pos = cond (eqb (number % 2) 0) (u - pos) (pos - 1)
 -- step 9 of document 01: bits go one at a time
 abbrev pub ones : ℕ → ℕ
 ones q = 1
+
+-- bs of document 004 for uplink with two PhCHs, of spreading factors SF1 and SF2: if SF1 >= SF2, bs1 = 1 and bs2 = SF1/SF2; if SF2 > SF1,
+-- bs1 = SF2/SF1 and bs2 = 1
+unfoldable pub firstRun : ℕ → ℕ → ℕ
+firstRun sf1 sf2 = cond (ltb sf1 sf2) (sf2 / sf1) 1
+
+unfoldable pub secondRun : ℕ → ℕ → ℕ
+secondRun sf1 sf2 = cond (ltb sf1 sf2) 1 (sf1 / sf2)
+
+-- runs of b for PhCH 1, and of c for the other
+unfoldable pub inRuns : ℕ → ℕ → ℕ → ℕ
+inRuns b c q = cond (eqb q 0) b c
 
 abbrev pub at : List ℕ → ℕ → ℕ
 at caps p = getD caps p 0

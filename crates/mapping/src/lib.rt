@@ -1,12 +1,39 @@
 // Step 9: mapping a slot's bits to its physical channels (PhCHs), and the undoing. PhCHs and their bits are counted from 0 here.
-// Both go along one PhCH after the other, stretch by stretch. From one bit of a PhCH to its next the number of the bit moves by a stride, which
-// changes only where a PhCH fills up.
+// Bits that go one at a time are mapped along one PhCH after the other, stretch by stretch. From one bit of a PhCH to its next the number of the
+// bit moves by a stride, which changes only where a PhCH fills up. Two PhCHs that take bits in runs are mapped by `pairs`.
 ghost use mathlib.Core.Path.{_≡_};
-ghost use Prim.Native.Nat.{min, _+_, _-_, _≤_, _<_};
+ghost use Prim.Native.Nat.{min, _+_, _-_, _/_, _^_, _≤_, _<_};
 ghost use lib.ListN.{length};
 ghost use lib.Ieee.{nan};
-ghost use Rattle.mapping.specs.Mapping.{posOf, numberOf, filledAs, ones, at, slotSize, slotOf, slotUndone, Slot};
+ghost use Rattle.mapping.specs.Mapping.{posOf, numberOf, filledAs, ones, firstRun, secondRun, inRuns, at, slotSize, slotOf, slotUndone, Slot};
+ghost use Rattle.mapping.specs.Runs.{hadIn, Short, Coded};
 ghost use Rattle.mapping.specs.Strides.{turns, walk, Reached, Least, Marked, Leg, Along, Onward};
+
+mod pairs;
+
+// How many bits PhCH 1 takes at its turn, and how many the others do.
+pub struct Runs {
+    pub first: usize,
+    pub other: usize,
+}
+
+// Of two codes in uplink, by the logarithms of their spreading factors.
+pub fn runs_of(first: u16, second: u16) -> Runs
+    requires { ⌜ (first ≤ 4) × (second ≤ 4) ⌝ }
+    ensures { λ r. ⌜ (r .first ≡ firstRun (2 ^ first) (2 ^ second)) × (r .other ≡ secondRun (2 ^ first) (2 ^ second)) × Short (r .first) (r .other) ⌝ }
+{
+    if first < second {
+        Runs {
+            first: 1usize << (second - first),
+            other: 1,
+        }
+    } else {
+        Runs {
+            first: 1,
+            other: 1usize << (first - second),
+        }
+    }
+}
 
 fn lesser(a: usize, b: usize) -> usize
     ensures { λ r. ⌜ r ≡ min a b ⌝ }
@@ -20,6 +47,17 @@ fn capacity(caps: &[u16], p: usize) -> usize
     ensures { λ r. ⌜ (r ≡ at (now (caps .entry)) p) × (r < 65536) ⌝ }
 {
     caps[p] as usize
+}
+
+// How many whole runs x bits have. Where bits go one at a time nothing is divided.
+fn whole_runs(x: usize, run: usize) -> usize
+    requires { ⌜ 0 < run ⌝ }
+    ensures { λ r. ⌜ r ≡ x / run ⌝ }
+{
+    if run == 1 {
+        return x;
+    }
+    x / run
 }
 
 // The place, in a slot in frame order, of bit x of PhCH p, whose u places start at base. Its number is p + 1: odd ones fill from place 1 up,
@@ -206,8 +244,8 @@ fn empty(frame: &[f32], caps: &[u16], m: Mark, r: Stretch, bits: &mut [f32]) -> 
     k
 }
 
-// Maps the bits of a slot, one at a time to each PhCH that has room. The frame is the slot's part of it.
-pub fn map_slot(bits: &[u8], caps: &[u16], frame: &mut [u8])
+// Maps the bits of a slot, one at a time to each PhCH that has room.
+fn map_ones(bits: &[u8], caps: &[u16], frame: &mut [u8])
     requires { ⌜ Slot (now caps) (length (now bits)) (length (now frame)) ⌝ }
     ensures { λ _. ⌜ now (frame .exit) ≡ slotOf ones (now (caps .entry)) (now (bits .entry)) (now (frame .entry)) ⌝ }
 {
@@ -219,8 +257,8 @@ pub fn map_slot(bits: &[u8], caps: &[u16], frame: &mut [u8])
     }
 }
 
-// Takes the soft values of a slot back into the order of its bits.
-pub fn unmap_slot(frame: &[f32], caps: &[u16], bits: &mut [f32])
+// Takes the soft values of such a slot back into the order of its bits.
+fn unmap_ones(frame: &[f32], caps: &[u16], bits: &mut [f32])
     requires { ⌜ Slot (now caps) (length (now bits)) (length (now frame)) ⌝ }
     ensures { λ _. ⌜ now (bits .exit) ≡ slotUndone ones (now (caps .entry)) nan (now (frame .entry)) ⌝ }
 {
@@ -232,6 +270,30 @@ pub fn unmap_slot(frame: &[f32], caps: &[u16], bits: &mut [f32])
     }
 }
 
+// Maps the bits of a slot in runs. The frame is the slot's part of it.
+pub fn map_slot(bits: &[u8], caps: &[u16], runs: Runs, frame: &mut [u8])
+    requires { ⌜ Coded (now caps) (runs .first) (runs .other) (length (now bits)) (length (now frame)) ⌝ }
+    ensures { λ _. ⌜ now (frame .exit) ≡ slotOf (inRuns (runs .first) (runs .other)) (now (caps .entry)) (now (bits .entry)) (now (frame .entry)) ⌝ }
+{
+    if runs.first + runs.other == 2 {
+        map_ones(bits, caps, frame);
+        return;
+    }
+    pairs::map_pair(bits, caps, runs, frame);
+}
+
+// Takes the soft values of a slot back into the order of its bits.
+pub fn unmap_slot(frame: &[f32], caps: &[u16], runs: Runs, bits: &mut [f32])
+    requires { ⌜ Coded (now caps) (runs .first) (runs .other) (length (now bits)) (length (now frame)) ⌝ }
+    ensures { λ _. ⌜ now (bits .exit) ≡ slotUndone (inRuns (runs .first) (runs .other)) (now (caps .entry)) nan (now (frame .entry)) ⌝ }
+{
+    if runs.first + runs.other == 2 {
+        unmap_ones(frame, caps, bits);
+        return;
+    }
+    pairs::unmap_pair(frame, caps, runs, bits);
+}
+
 // Which of a PhCH's u bits, counted from 0, stands at its place, counted from 1: the undoing of `spot`.
 fn rank_at(p: usize, u: usize, place: usize) -> usize
     requires { ⌜ (0 < place) × (place ≤ u) ⌝ }
@@ -240,17 +302,37 @@ fn rank_at(p: usize, u: usize, place: usize) -> usize
     if p % 2 == 0 { place - 1 } else { u - place }
 }
 
+// How many bits PhCH p takes at its turn.
+fn run_of(runs: Runs, p: usize) -> usize
+    requires { ⌜ Short (runs .first) (runs .other) ⌝ }
+    ensures { λ r. ⌜ (r ≡ inRuns (runs .first) (runs .other) p) × (0 < r) × (r ≤ 16) ⌝ }
+{
+    if p == 0 { runs.first } else { runs.other }
+}
+
+// What PhCH q, other than PhCH p, has when PhCH p takes a bit of its turn.
+fn had_by(caps: &[u16], runs: Runs, p: usize, turn: usize, q: usize) -> usize
+    requires { ⌜ (q < length (now caps)) × (turn < 65536) × Short (runs .first) (runs .other) ⌝ }
+    ensures { λ r. ⌜ (r ≡ hadIn (at (now (caps .entry))) (inRuns (runs .first) (runs .other)) p turn q) × (r ≤ 65535) ⌝ }
+{
+    if q == p {
+        return 0;
+    }
+    lesser(capacity(caps, q), turns_had(p, turn, q) * run_of(runs, q))
+}
+
 // The slot's bit that stands at a place of PhCH p: as many as all PhCHs have by then.
-pub fn bit_at(caps: &[u16], p: usize, place: usize) -> usize
-    requires { ⌜ (p < length (now caps)) × (length (now caps) ≤ 16) × (0 < place) × (place ≤ at (now caps) p) ⌝ }
-    ensures { λ r. ⌜ r ≡ numberOf (at (now (caps .entry))) ones (length (now (caps .entry))) p (filledAs (at (now (caps .entry)) p) (p + 1) place) ⌝ }
+pub fn bit_at(caps: &[u16], runs: Runs, p: usize, place: usize) -> usize
+    requires { ⌜ (p < length (now caps)) × (length (now caps) ≤ 16) × (0 < place) × (place ≤ at (now caps) p) × Short (runs .first) (runs .other) ⌝ }
+    ensures { λ r. ⌜ r ≡ numberOf (at (now (caps .entry))) (inRuns (runs .first) (runs .other)) (length (now (caps .entry))) p (filledAs (at (now (caps .entry)) p) (p + 1) place) ⌝ }
 {
     let x = rank_at(p, capacity(caps, p), place);
+    let turn = whole_runs(x, run_of(runs, p));
     let mut sum: usize = 0;
     let mut q: usize = 0;
     while q < caps.len() {
-        sum += lesser(capacity(caps, q), turns_had(p, x, q));
+        sum += had_by(caps, runs, p, turn, q);
         q += 1;
     }
-    sum
+    x + sum
 }

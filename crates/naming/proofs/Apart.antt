@@ -21,7 +21,8 @@ use Rattle.mapping.specs.Mapping.{posOf, filledAs}
 use Rattle.mapping.proofs.PlaceLaws.{filled-in, pos-filled}
 use Rattle.mapping.proofs.TurnLaws.{number-apart}
 use Rattle.frame.specs.Frame.{startAt, runsOf, slotStart, subframeStart}
-use Rattle.frame.proofs.FrameLaws.{rates, runs-some}
+use Rattle.frame.proofs.FrameLaws.{rates}
+use Rattle.frame.proofs.TurnLaws.{runs-some}
 use Rattle.naming.specs.Name.{Name, slotBitAt, readFrom, multiplexedAt, bitNumber, nameAt, nameOf, Exists}
 use Rattle.naming.proofs.Multiplexed.{lies}
 use Rattle.naming.proofs.Slots.{readBy, bit-inside, bit-shared, subframe-in, slot-in, phch-in, number-in, index-below}

@@ -15,7 +15,8 @@ use Rattle.mapping.specs.Mapping.{phchOf, rankOf, posOf, numberOf}
 use Rattle.mapping.proofs.PlaceLaws.{pos-in, filled-pos}
 use Rattle.mapping.proofs.TurnLaws.{bit-goes}
 use Rattle.frame.specs.Frame.{runsOf, slotStart}
-use Rattle.frame.proofs.FrameLaws.{runs-some, slot-room}
+use Rattle.frame.proofs.FrameLaws.{slot-room}
+use Rattle.frame.proofs.TurnLaws.{runs-some}
 use Rattle.naming.specs.Name.{indexOf, slotBitAt, readFrom, multiplexedAt, Exists}
 use Rattle.naming.proofs.Slots as Slots
 

@@ -17,10 +17,13 @@ use Rattle.sheet.specs.Range.{Accepted}
 use Rattle.sheet.specs.declared.Sheet.{Sheet}
 use Rattle.sheet.proofs.SizeLaws.{one-subframe, capacity-one}
 use Rattle.interleaving.specs.Second.{comesFrom}
-use Rattle.mapping.specs.Mapping.{numberOf, filledAs, ones, at}
+use Rattle.mapping.specs.Mapping.{numberOf, filledAs, inRuns, at}
+use Rattle.mapping.specs.Runs.{Short}
+use Rattle.mapping.specs.declared.Runs.{Runs}
 use Rattle.opening.proofs.OpenLaws.{capacity-most}
 use Rattle.frame.specs.Frame.{capsOf, slotStart, subframeStart}
-use Rattle.frame.proofs.FrameLaws.{runs-ones, caps-at, caps-length}
+use Rattle.frame.specs.Slots.{RunsAt}
+use Rattle.frame.proofs.FrameLaws.{caps-at, caps-length}
 use Rattle.naming.specs.Name.{slotBitAt, readFrom}
 use Rattle.naming.proofs.Slots.{readBy, bit-by-caps}
 
@@ -40,16 +43,18 @@ module _ (sh : Sheet) (ok : Accepted sh) (t : ℕ) (l : t < sh .slots) {phchs ca
       ap₂ (λ (k : ℕ) (c : List ℕ). take k (drop (mostCodes * t) c)) q ec
 
   module _ (p place : ℕ) (h : p < phchsOf sh t) where
-    pub lent-asks : 0 < place → place ≤ capacityOf sh t p → (p < length lent) × (length lent ≤ 16) × (0 < place) × (place ≤ at lent p)
-    lent-asks from to =
+    pub lent-asks : 0 < place → place ≤ capacityOf sh t p → {r : Runs} → RunsAt sh t r
+        → (p < length lent) × (length lent ≤ 16) × (0 < place) × (place ≤ at lent p) × Short (r .first) (r .other)
+    lent-asks from to k =
         let n = ap length lent-caps ∙ caps-length sh ok t l in
         let u = ap (λ (c : List ℕ). at c p) lent-caps ∙ caps-at sh t p h in
-        (omega (arith, n), omega (arith, n, ok .ranged .phch16 t l), from, omega (arith, u))
+        (omega (arith, n), omega (arith, n, ok .ranged .phch16 t l), from, omega (arith, u), k .short)
 
-    pub lent-bit : {r : ℕ} → r ≡ numberOf (at lent) ones (length lent) p (filledAs (at lent p) (p + 1) place) → r ≡ slotBitAt sh t p place
-    lent-bit q =
+    pub lent-bit : {r : Runs} → RunsAt sh t r → {n : ℕ}
+        → n ≡ numberOf (at lent) (inRuns (r .first) (r .other)) (length lent) p (filledAs (at lent p) (p + 1) place) → n ≡ slotBitAt sh t p place
+    lent-bit k q =
         q
-        ∙ ap₂ (λ (B : ℕ → ℕ) (c : List ℕ). numberOf (at c) B (length c) p (filledAs (at c p) (p + 1) place)) (sym (runs-ones sh t)) lent-caps
+        ∙ ap₂ (λ (B : ℕ → ℕ) (c : List ℕ). numberOf (at c) B (length c) p (filledAs (at c p) (p + 1) place)) (sym (k .runs)) lent-caps
         ∙ bit-by-caps sh ok t l p place h
 
 -- a slot lies within the frame

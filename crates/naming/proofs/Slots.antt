@@ -21,7 +21,8 @@ use Rattle.mapping.proofs.PlaceLaws.{filled-in}
 use Rattle.mapping.proofs.TurnLaws.{place-gets}
 use Rattle.mapping.proofs.MappedLaws.{mapped-place}
 use Rattle.frame.specs.Frame.{capsOf, runsOf, slotStart, subframeStart, slotPart, slotShare, sharePart, slotBits, slotMapped, spread}
-use Rattle.frame.proofs.FrameLaws.{runs-some, caps-at, caps-length, caps-size, slot-room, share-room, share-part-room, length-share, length-slot-bits, length-slot}
+use Rattle.frame.proofs.FrameLaws.{caps-at, caps-length, caps-size, slot-room, share-room, share-part-room, length-share, length-slot-bits, length-slot}
+use Rattle.frame.proofs.TurnLaws.{runs-some}
 use Rattle.naming.specs.Name.{indexOf, slotBitAt, readFrom, multiplexedAt, Exists}
 
 -- ---- step 8: the slot's bit k

@@ -11,6 +11,7 @@ ghost use Rattle.sheet.specs.Range.{Accepted};
 ghost use Rattle.opening.specs.Opened.{Opens};
 ghost use Rattle.naming.specs.Name.{slotBitAt, readFrom, multiplexedAt, onlySubframe, Exists};
 use counters::PhchNumber;
+use frame::spreading::runs_at;
 use interleaving::second::source_at;
 use mapping::bit_at;
 use opening::Opened;
@@ -63,7 +64,8 @@ fn slot_bit<'a>(
     let all: &[u16] = caps;
     let from = CODES * t;
     let to = from + count(phchs[t]);
-    bit_at(&all[from..to], p, place) as u64
+    let runs = runs_at(fields, t);
+    bit_at(&all[from..to], runs, p, place) as u64
 }
 
 // Step 8: from where the slot's bit k is read. D is the last Z.

@@ -15,6 +15,7 @@ use sheet::count;
 use sheet::counts::CHANNELS;
 use sheet::fields::read_fields;
 use sheet::none;
+use sheet::reading::beyond_uplink;
 use sheet::reading::read_number;
 use sheet::sizes::segment;
 use sheet::sizes::whole_load;
@@ -81,7 +82,8 @@ pub fn open_sheet(bytes: &[u8]) -> OpenAnswer
 {
     let fields = read_fields(bytes);
     let load = whole_load(&fields.phchs, &fields.caps, count(fields.slots));
-    let number = read_number(bytes, fields, load);
+    let beyond = beyond_uplink(fields);
+    let number = read_number(bytes, fields, load, beyond);
     if number == 0 {
         let opened = open_fields(fields, load.sum);
         return OpenAnswer { number, opened };

@@ -17,7 +17,7 @@ use legend::say_marks;
 use legend::say_title;
 use refusal::say_refusal;
 use sheet::Sheet;
-use sheet::counts::LONGEST;
+use sheet::counts::LONGEST_FORM;
 use sheet::wide;
 use style::say_style;
 use ummervia::name;
@@ -70,7 +70,7 @@ fn picture(sheet: &[u8], frame: FrameNumber) {
 
 fn main() {
     let frame = argument::asked();
-    let mut buffer = [0u8; LONGEST + 1];
+    let mut buffer = [0u8; LONGEST_FORM + 1];
     let n = io::read_full(0, &mut buffer);
     picture(&buffer[..n], frame);
 }

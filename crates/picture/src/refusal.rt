@@ -19,6 +19,11 @@ fn say_meaning(out: &mut [u8; ROOM], at: usize, number: u32) -> usize {
         7 => say(out, at, b" (sum of all capacities over 60,000)"),
         8 => say(out, at, b" (every E is 0)"),
         9 => say(out, at, b" (frame number not 0 to 255)"),
+        13 => say(
+            out,
+            at,
+            b" (an uplink slot with more than two codes, or a logarithm over 4)",
+        ),
         _ => at,
     }
 }

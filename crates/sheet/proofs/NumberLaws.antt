@@ -1,24 +1,28 @@
 -- What the number 0 says of a sheet, and the answers of reading.
 use mathlib.Core.Path.{_≡_, refl, sym, ap, ap₂, _∙_}
-use mathlib.Core.Bool.{Bool, false, not, _||_}
+use mathlib.Core.Bool.{Bool, false, not, _&&_, _||_}
 use mathlib.Core.List.{List}
-use Prim.Native.Nat.{ℕ, _+_, _-_, _*_}
+use Prim.Native.Nat.{ℕ, _+_, _-_, _*_, _≤_, _<_}
 use native.Mathlib.Omega.{arith}
-use borrow.Author.Tests.{eq-eqb, ne-eqb, eqb-true, eqb-false, not-false}
+use native.Mathlib.Decide.{ℕ-discrete}
+use borrow.Author.Tests.{eq-eqb, ne-eqb, eqb-true, eqb-false, ltb-false, not-false}
 use lib.Dec.{ltb, eqb}
 use lib.ListN.{length}
 use Rattle.laws.specs.Sums.{anyTo}
+use Rattle.laws.proofs.SumLaws.{sum-most, any-each}
 use Rattle.laws.proofs.TestLaws.{or-left, or-right}
 use Rattle.counters.specs.Lines.{firstOf, given}
 use Rattle.counters.proofs.LineLaws.{Numbered, numbered-of, clear-of, clear-at, pass-zero, given-yes, given-no}
 use Rattle.bits.specs.Bits.{val, bitsAt}
-use Rattle.sheet.specs.Counts.{mostBits}
-use Rattle.sheet.specs.Layout.{spareAt, spareWidth}
-use Rattle.sheet.specs.Fields.{headIn, sparesIn, sheetOf, blank, phchsOf, capacityOf}
+use Rattle.sheet.specs.Counts.{mostCodes, mostPaired, mostBits, mostLog, longestSheet}
+use Rattle.sheet.specs.Layout.{spareAt, spareWidth, slotWidth}
+use Rattle.sheet.specs.Fields.{headIn, sparesIn, sheetOf, blank, phchsOf, capacityOf, logOf}
 use Rattle.sheet.specs.Sizes.{equalisedAll, capacityAll, bitsNeeded, bytesNeeded}
-use Rattle.sheet.specs.Numbers.{emptyPlace, silent, misfit, loadLines, readLines, readNumber, readAnswer}
+use Rattle.sheet.specs.Numbers.{emptyPlace, slotBeyond, someBeyond, beyondUplink, silent, misfit, loadLines, readLines, readNumber, readAnswer}
+use Rattle.sheet.specs.Range.{Ranged}
 use Rattle.sheet.specs.declared.Sheet.{Sheet}
 use Rattle.sheet.specs.declared.SheetAnswer.{SheetAnswer}
+use Rattle.sheet.proofs.SlotLaws.{width-most}
 
 -- the three of line 4, and line 5 of one slot
 abbrev pub wrongLength : List ℕ → Bool
@@ -34,7 +38,7 @@ abbrev pub emptySlot : Sheet → ℕ → Bool
 emptySlot sh t = anyTo (λ p. eqb (capacityOf sh t p) 0) (phchsOf sh t)
 
 -- the spare bits at once: they are 0 where each of them is
-at-once : (s : List ℕ) → bitsAt s spareAt spareWidth ≡ 8 * headIn s 4 + 4 * headIn s 5 + 2 * headIn s 6 + headIn s 7
+at-once : (s : List ℕ) → bitsAt s spareAt spareWidth ≡ 4 * headIn s 5 + 2 * headIn s 6 + headIn s 7
 unfolding val
 at-once s = omega arith
 
@@ -50,6 +54,7 @@ read-numbered s = numbered-of (readLines s) refl
 -- what the lines from 5 on leave
 pub record Loads (sh : Sheet) : Type 0 where
   pub places : emptyPlace sh ≡ false
+  pub uplink : beyondUplink sh ≡ false
   pub sizes : ltb mostBits (equalisedAll sh) ≡ false
   pub capacity : ltb mostBits (capacityAll sh) ≡ false
   pub heard : silent sh ≡ false
@@ -57,7 +62,31 @@ pub record Loads (sh : Sheet) : Type 0 where
 pub loads-zero : (sh : Sheet) → firstOf (loadLines sh) ≡ 0 → Loads sh
 loads-zero sh h =
     let c = clear-of (numbered-of (loadLines sh) refl) h in
-    record { places = clear-at 5 c; sizes = clear-at 6 c; capacity = clear-at 7 c; heard = clear-at 8 c }
+    record { places = clear-at 5 c; uplink = clear-at 13 c; sizes = clear-at 6 c; capacity = clear-at 7 c; heard = clear-at 8 c }
+
+-- without number 13 each slot of an uplink sheet has at most two physical channels, with logarithms of at most 4
+pub paired-of : (sh : Sheet) → beyondUplink sh ≡ false → (sh .uplink ≡ 0 → ⊥) → (t : ℕ) → t < sh .slots
+    → (phchsOf sh t ≤ mostPaired) × ((p : ℕ) → p < phchsOf sh t → logOf sh t p ≤ mostLog)
+paired-of sh h up t l =
+    let any = sym (ap (λ (b : Bool). not b && someBeyond (sh .phchs) (sh .logs) (sh .slots)) (ne-eqb (sh .uplink) 0 up)) ∙ h in
+    let s = any-each (λ k. slotBeyond (sh .logs) k (phchsOf sh k)) (sh .slots) t any l in (
+      ltb-false mostPaired (phchsOf sh t) (or-left _ (anyTo (λ p. ltb mostLog (logOf sh t p)) (phchsOf sh t)) s),
+      λ p k. ltb-false mostLog (logOf sh t p) (any-each (λ q. ltb mostLog (logOf sh t q)) (phchsOf sh t) p (or-right (ltb mostPaired (phchsOf sh t)) _ s) k),
+    )
+
+-- so that no slot that is accepted is wider than one of downlink can be
+slot-most : (sh : Sheet) → Ranged sh → beyondUplink sh ≡ false → (t : ℕ) → t < sh .slots → Dec (sh .uplink ≡ 0)
+    → slotWidth (sh .uplink) (phchsOf sh t) ≤ slotWidth 0 mostCodes
+slot-most sh r h t l (yes z) = rw z (omega (arith, r .phch16 t l))
+slot-most sh r h t l (no z) = omega (arith, paired-of sh h z t l .0, width-most (sh .uplink) (phchsOf sh t) (r .uplink))
+
+pub accepted-most : (sh : Sheet) → Ranged sh → Loads sh → bytesNeeded sh ≤ longestSheet
+accepted-most sh r h =
+    let b =
+    sum-most (λ t. slotWidth (sh .uplink) (phchsOf sh t)) (slotWidth 0 mostCodes) (sh .slots)
+    (λ t l. slot-most sh r (h .uplink) t l (ℕ-discrete (sh .uplink) 0))
+    in
+    omega (arith, r .few-slots, r .few-channels)
 
 -- what an accepted sheet has
 pub record Readable (s : List ℕ) : Type 0 where

@@ -10,7 +10,7 @@ use borrow.Author.Tests.{eq-eqb, ne-eqb}
 use lib.Pow.{pow-mono, pow-pos}
 use Rattle.laws.specs.Sums.{anyTo}
 use Rattle.laws.proofs.SumLaws.{sum-most}
-use Rattle.sheet.specs.Counts.{mostSlots, mostCodes, mostTti, mostFrames, mostNeeded, longestSheet}
+use Rattle.sheet.specs.Counts.{mostSlots, mostCodes, mostTti, mostFrames, mostNeeded, longestForm}
 use Rattle.sheet.specs.Layout.{slotWidth}
 use Rattle.sheet.specs.Fields.{phchsOf}
 use Rattle.sheet.specs.Sizes.{framesIn, segmentIn, slotCapacity, placesAll, subframesOf, capacityAll, bitsNeeded, bytesNeeded}
@@ -18,6 +18,7 @@ use Rattle.sheet.specs.Numbers.{slotLoad, wholeLoad, loadOf}
 use Rattle.sheet.specs.Range.{Ranged}
 use Rattle.sheet.specs.declared.sizes.Load.{Load}
 use Rattle.sheet.specs.declared.Sheet.{Sheet}
+use Rattle.sheet.proofs.SlotLaws.{width-most}
 
 -- 1 << tti
 pub shifted : (tti : ℕ) → tti ≤ mostTti → 1 * 2 ^ tti % 18446744073709551616 ≡ framesIn tti
@@ -70,11 +71,14 @@ load-capacity sh e = ap (λ (x : Load). x .sum) e ∙ capacity-one sh
 pub load-sum : (sh : Sheet) (t : ℕ) {n : ℕ} {load : Load} → n ≡ phchsOf sh t → load ≡ slotLoad (sh .caps) (mostCodes * t) n → load .sum ≡ slotCapacity sh t
 load-sum sh t e h = ap (λ (x : Load). x .sum) (h ∙ ap (slotLoad (sh .caps) (mostCodes * t)) e)
 
--- the longest sheet
+-- the longest sheet in form
 pub need-most : (sh : Sheet) → Ranged sh → bitsNeeded sh ≤ mostNeeded
 need-most sh r =
-    let b = sum-most (λ t. slotWidth (phchsOf sh t)) (slotWidth mostCodes) (sh .slots) (λ t l. omega (arith, r .phch16 t l)) in
+    let b =
+    sum-most (λ t. slotWidth (sh .uplink) (phchsOf sh t)) (slotWidth 1 mostCodes) (sh .slots)
+    (λ t l. omega (arith, r .phch16 t l, width-most (sh .uplink) (phchsOf sh t) (r .uplink)))
+    in
     omega (arith, r .few-slots, r .few-channels)
 
-pub bytes-most : (sh : Sheet) → Ranged sh → bytesNeeded sh ≤ longestSheet
+pub bytes-most : (sh : Sheet) → Ranged sh → bytesNeeded sh ≤ longestForm
 bytes-most sh r = omega (arith, need-most sh r)

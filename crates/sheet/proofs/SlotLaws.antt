@@ -1,20 +1,21 @@
--- Laws of reading: one channel more, one capacity more, a slot that is done, and the fields put together.
-use mathlib.Core.Path.{_≡_, sym, ap, ap₂, _∙_}
+-- Laws of reading: one channel more, one physical channel more, a slot that is done, and the fields put together.
+use mathlib.Core.Path.{_≡_, refl, sym, ap, ap₂, _∙_}
 use mathlib.Core.List.{List}
 use Prim.Native.Nat.{ℕ, _+_, _*_, _/_, _%_, _≤_, _<_}
-use native.Mathlib.Nat.{add-zero}
+use native.Mathlib.Nat.{add-zero, mul-comm, mul-add, mul-le-mul-right}
 use native.Mathlib.Numerals.{add-one}
 use native.Mathlib.Omega.{arith}
 use native.Mathlib.Decide.{decLt}
-use lib.ListN.{set}
+use lib.Arith.{digits-div, digits-mod}
+use lib.ListN.{getD, set, replicate}
 use Rattle.laws.specs.Tables.{upTo}
-use Rattle.laws.proofs.TableLaws.{table-set, table-same, upTo-below, upTo-past}
-use Rattle.bits.specs.Bits.{bitsAt}
+use Rattle.laws.proofs.TableLaws.{filled-at, table-set, table-same, table-zeros, upTo-below, upTo-past, upTo-zero}
+use Rattle.bits.specs.Bits.{val, bitsAt}
 use Rattle.bits.proofs.BitLaws.{bits-lt}
-use Rattle.sheet.specs.Counts.{mostChannels, mostSlots, mostCodes, mostCapacities}
-use Rattle.sheet.specs.Layout.{versionAt, versionWidth, modeAt, modeWidth, countAt, countWidth, slotsAt, slotsWidth, ttiWidth, encodedWidth, ratioWidth, codesWidth, capacityWidth, channelAt, slotWidth}
-use Rattle.sheet.specs.Fields.{ttiIn, encodedIn, ratioIn, slotFrom, phchsIn, capacityIn, sheetOf}
-use Rattle.sheet.specs.Reading.{channelsTo, slotsTo}
+use Rattle.sheet.specs.Counts.{mostChannels, mostSlots, mostCodes, mostCapacities, mostPaired, mostLogs}
+use Rattle.sheet.specs.Layout.{versionAt, versionWidth, modeAt, modeWidth, countAt, countWidth, slotsAt, slotsWidth, uplinkAt, uplinkWidth, ttiWidth, encodedWidth, ratioWidth, codesWidth, logWidth, capacityWidth, channelAt, slotWidth}
+use Rattle.sheet.specs.Fields.{uplinkIn, ttiIn, encodedIn, ratioIn, slotFrom, phchsIn, codeLog, codeCapacity, codeIn, sheetOf}
+use Rattle.sheet.specs.Reading.{channelsTo, slotsTo, logsTo}
 use Rattle.sheet.specs.declared.fields.Channels.{Channels}
 use Rattle.sheet.specs.declared.fields.Slots.{Slots}
 use Rattle.sheet.specs.declared.Sheet.{Sheet}
@@ -28,41 +29,55 @@ channels-more s k c h e ea eb ed =
 pub phchs-most : (s : List ℕ) (start t : ℕ) → phchsIn s start t ≤ mostCodes
 phchs-most s start t = omega (arith, bits-lt s (slotFrom s start t) codesWidth)
 
-pub slot-next : (s : List ℕ) (start t : ℕ) → slotFrom s start t + slotWidth (phchsIn s start t) ≡ slotFrom s start (t + 1)
+pub uplink-most : (s : List ℕ) → uplinkIn s ≤ 1
+uplink-most s = omega (arith, bits-lt s uplinkAt uplinkWidth)
+
+-- a physical channel more takes as many bits as any, and in uplink the most
+pub width-more : (up p : ℕ) → slotWidth up (p + 1) ≡ slotWidth up p + logWidth up + capacityWidth
+width-more up p = omega (arith, mul-add (logWidth up + capacityWidth) p 1)
+
+pub width-most : (up p : ℕ) → up ≤ 1 → slotWidth up p ≤ slotWidth 1 p
+width-most up p h = let b : logWidth up + capacityWidth ≤ 15 = omega arith in omega (arith, mul-le-mul-right p b)
+
+pub slot-next : (s : List ℕ) (start t : ℕ) → slotFrom s start t + slotWidth (uplinkIn s) (phchsIn s start t) ≡ slotFrom s start (t + 1)
 unfolding slotFrom
 slot-next s start t = rw (add-one t)
 
--- capacity 16 t + p is that of physical channel p of slot t
-pub capacity-in : (s : List ℕ) (start t p : ℕ) → p < phchsIn s start t
-    → bitsAt s (slotFrom s start t + slotWidth p) capacityWidth ≡ capacityIn s start (mostCodes * t + p)
-capacity-in s start t p h =
-    let f : ℕ → ℕ → ℕ = λ a b. bitsAt s (slotFrom s start a + slotWidth b) capacityWidth in
-    let q : (mostCodes * t + p) / mostCodes ≡ t = omega (arith, phchs-most s start t) in
-    let r : (mostCodes * t + p) % mostCodes ≡ p = omega (arith, phchs-most s start t) in
-    sym (ap₂ (λ (a b : ℕ). upTo (phchsIn s start a) b (f a b)) q r ∙ upTo-below (phchsIn s start t) p (f t p) h)
+-- what there is of the physical channels, where an array has w of them for each slot
+module _ (w : ℕ) (f : List ℕ → ℕ → ℕ → ℕ → ℕ) (s : List ℕ) (start t : ℕ) where
+  -- number w t + p is physical channel p of slot t
+  pub code-at : (p : ℕ) → p < w → codeIn w f s start (w * t + p) ≡ upTo (phchsIn s start t) p (f s start t p)
+  code-at p h =
+      let q : (w * t + p) / w ≡ t = ap (λ (x : ℕ). (x + p) / w) (mul-comm w t) ∙ digits-div t {m = w} {r = p} h in
+      let r : (w * t + p) % w ≡ p = ap (λ (x : ℕ). (x + p) % w) (mul-comm w t) ∙ digits-mod t {m = w} {r = p} h in
+      ap₂ (λ (a b : ℕ). upTo (phchsIn s start a) b (f s start a b)) q r
 
--- past the slot's physical channels there is none
-capacity-none : (s : List ℕ) (start t m : ℕ) → mostCodes * t + phchsIn s start t ≤ m → m < mostCodes * (t + 1) → capacityIn s start m ≡ 0
-capacity-none s start t m h l =
-    let x = bitsAt s (slotFrom s start (m / mostCodes) + slotWidth (m % mostCodes)) capacityWidth in
-    let q : m / mostCodes ≡ t = omega arith in
-    let r : phchsIn s start t ≤ m % mostCodes = omega arith in
-    ap (λ (a : ℕ). upTo (phchsIn s start a) (m % mostCodes) x) q ∙ upTo-past (phchsIn s start t) (m % mostCodes) x r
+  pub code-in : (p : ℕ) → p < w → p < phchsIn s start t → f s start t p ≡ codeIn w f s start (w * t + p)
+  code-in p h l = sym (code-at p h ∙ upTo-below (phchsIn s start t) p (f s start t p) l)
 
--- a slot that is done
+-- a slot's capacities that are done
 module _ (s : List ℕ) (start t : ℕ) where
+  -- past the slot's physical channels there is none
+  capacity-none : (m : ℕ) → mostCodes * t + phchsIn s start t ≤ m → m < mostCodes * (t + 1) → codeIn mostCodes codeCapacity s start m ≡ 0
+  capacity-none m h l =
+      let x = codeCapacity s start (m / mostCodes) (m % mostCodes) in
+      let q : m / mostCodes ≡ t = omega arith in
+      let r : phchsIn s start t ≤ m % mostCodes = omega arith in
+      ap (λ (a : ℕ). upTo (phchsIn s start a) (m % mostCodes) x) q ∙ upTo-past (phchsIn s start t) (m % mostCodes) x r
+
   entry : (m : ℕ) → Dec (m < mostCodes * t + phchsIn s start t) → Dec (m < mostCodes * (t + 1))
-      → upTo (mostCodes * t + phchsIn s start t) m (capacityIn s start m) ≡ upTo (mostCodes * (t + 1)) m (capacityIn s start m)
+      → upTo (mostCodes * t + phchsIn s start t) m (codeIn mostCodes codeCapacity s start m) ≡ upTo (mostCodes * (t + 1)) m (codeIn mostCodes codeCapacity s start m)
   entry m (yes a) b = upTo-below _ m _ a ∙ sym (upTo-below (mostCodes * (t + 1)) m _ (omega (arith, phchs-most s start t)))
   entry m (no a) (yes b) =
-      upTo-past _ m _ (omega arith) ∙ sym (capacity-none s start t m (omega arith) b) ∙ sym (upTo-below (mostCodes * (t + 1)) m _ b)
+      upTo-past _ m _ (omega arith) ∙ sym (capacity-none m (omega arith) b) ∙ sym (upTo-below (mostCodes * (t + 1)) m _ b)
   entry m (no a) (no b) = upTo-past _ m _ (omega arith) ∙ sym (upTo-past (mostCodes * (t + 1)) m _ (omega arith))
 
   pub slot-done : slotsTo s start (t + 1) (mostCodes * t + phchsIn s start t) ≡ slotsTo s start (t + 1) (mostCodes * (t + 1))
   slot-done =
       let e =
-      table-same (λ m. upTo (mostCodes * t + phchsIn s start t) m (capacityIn s start m)) (λ m. upTo (mostCodes * (t + 1)) m (capacityIn s start m))
-      mostCapacities (λ m l. entry m (decLt m (mostCodes * t + phchsIn s start t)) (decLt m (mostCodes * (t + 1))))
+      table-same (λ m. upTo (mostCodes * t + phchsIn s start t) m (codeIn mostCodes codeCapacity s start m))
+      (λ m. upTo (mostCodes * (t + 1)) m (codeIn mostCodes codeCapacity s start m)) mostCapacities
+      (λ m l. entry m (decLt m (mostCodes * t + phchsIn s start t)) (decLt m (mostCodes * (t + 1))))
       in
       rw e
 
@@ -71,19 +86,67 @@ pub slot-begun : (s : List ℕ) (start t : ℕ) (r : Slots) {x : ℕ} → t < mo
 slot-begun s start t r h e ex = rw (e, ex, table-set (phchsIn s start) mostSlots t h, add-zero (mostCodes * t))
 
 pub slot-more : (s : List ℕ) (start t p : ℕ) (r : Slots) {x : ℕ} → t < mostSlots → p < phchsIn s start t → r ≡ slotsTo s start (t + 1) (mostCodes * t + p)
-    → x ≡ bitsAt s (slotFrom s start t + slotWidth p) capacityWidth
+    → x ≡ codeCapacity s start t p
     → _≡_ {A = Slots} (record { phchs = r .phchs; caps = set (r .caps) (mostCodes * t + p) x }) (slotsTo s start (t + 1) (mostCodes * t + (p + 1)))
-slot-more s start t p r {x} h l e ex =
+slot-more s start t p r h l e ex =
     let b : mostCodes * t + p < mostCapacities = omega (arith, phchs-most s start t) in
     let z : mostCodes * t + (p + 1) ≡ mostCodes * t + p + 1 = omega arith in
-    rw (e, ex, capacity-in s start t p l, table-set (capacityIn s start) mostCapacities (mostCodes * t + p) b, z)
+    let c = code-in mostCodes codeCapacity s start t p (omega (arith, phchs-most s start t)) l in
+    rw (e, ex, c, table-set (codeIn mostCodes codeCapacity s start) mostCapacities (mostCodes * t + p) b, z)
+
+-- P of each slot that was read
+pub slots-read : (s : List ℕ) (start t : ℕ) (r : Slots) → r ≡ slotsTo s start t (mostCodes * t) → t ≤ mostSlots → (i : ℕ) → i < t
+    → getD (r .phchs) i 0 ≡ phchsIn s start i
+slots-read s start t r e h i l = ap (λ (x : Slots). getD (x .phchs) i 0) e ∙ filled-at (phchsIn s start) t mostSlots i (omega arith) l
+
+-- the two logarithms of a slot are read
+pub logs-more : (s : List ℕ) (start t : ℕ) (logs : List ℕ) {x y : ℕ} → t < mostSlots → logs ≡ logsTo s start (mostPaired * t) → x ≡ codeLog s start t 0
+    → y ≡ upTo (phchsIn s start t) 1 (codeLog s start t 1)
+    → set (set logs (mostPaired * t) x) (mostPaired * t + 1) y ≡ logsTo s start (mostPaired * (t + 1))
+logs-more s start t logs h e ex ey =
+    let z : mostPaired * t ≡ mostPaired * t + 0 = omega arith in
+    let c = code-in mostPaired codeLog s start t 0 (omega arith) (omega arith) ∙ ap (codeIn mostPaired codeLog s start) (sym z) in
+    let d = sym (code-at mostPaired codeLog s start t 1 (omega arith)) in
+    let n : mostPaired * (t + 1) ≡ mostPaired * t + 1 + 1 = omega arith in
+    rw (
+      e,
+      ex,
+      ey,
+      c,
+      d,
+      table-set (codeIn mostPaired codeLog s start) mostLogs (mostPaired * t) (omega arith),
+      table-set (codeIn mostPaired codeLog s start) mostLogs (mostPaired * t + 1) (omega arith),
+      n,
+    )
+
+-- in downlink they are all 0
+pub logs-none : (s : List ℕ) (start m : ℕ) → uplinkIn s ≡ 0 → logsTo s start m ≡ replicate mostLogs 0
+unfolding val
+logs-none s start m z =
+    table-same (λ k. upTo m k (codeIn mostPaired codeLog s start k)) (λ k. 0) mostLogs
+    (λ k l.
+    ap (λ (u : ℕ). upTo m k (upTo (phchsIn s start (k / mostPaired)) (k % mostPaired) (bitsAt s (slotFrom s start (k / mostPaired) + slotWidth u (k % mostPaired)) (logWidth u)))) z
+    ∙ upTo-zero m k (upTo-zero (phchsIn s start (k / mostPaired)) (k % mostPaired) refl))
+    ∙ table-zeros mostLogs
 
 -- the parts that were read make the sheet
-pub joined : (s : List ℕ) {v m n t : ℕ} (c : Channels) (r : Slots) → v ≡ bitsAt s versionAt versionWidth → m ≡ bitsAt s modeAt modeWidth
-    → n ≡ bitsAt s countAt countWidth → t ≡ bitsAt s slotsAt slotsWidth → c ≡ channelsTo s (n + 1)
-    → r ≡ slotsTo s (channelAt (n + 1)) t (mostCodes * t)
+pub joined : (s : List ℕ) {v m n t u : ℕ} (c : Channels) (r : Slots) {l : List ℕ} → v ≡ bitsAt s versionAt versionWidth → m ≡ bitsAt s modeAt modeWidth
+    → n ≡ bitsAt s countAt countWidth → t ≡ bitsAt s slotsAt slotsWidth → u ≡ bitsAt s uplinkAt uplinkWidth → c ≡ channelsTo s (n + 1)
+    → r ≡ slotsTo s (channelAt (n + 1)) t (mostCodes * t) → l ≡ logsTo s (channelAt (n + 1)) (mostPaired * t)
     → _≡_ {A = Sheet}
-    (record { version = v; mode = m; channels = n + 1; slots = t; tti = c .tti; e = c .e; rm = c .rm; phchs = r .phchs; caps = r .caps })
+    (record {
+      version = v;
+      mode = m;
+      channels = n + 1;
+      slots = t;
+      uplink = u;
+      tti = c .tti;
+      e = c .e;
+      rm = c .rm;
+      phchs = r .phchs;
+      caps = r .caps;
+      logs = l;
+    })
     (sheetOf s)
 unfolding sheetOf
-joined s c r ev em en et ec er = rw (ec, er, ev, em, en, et)
+joined s c r ev em en et eu ec er el = rw (ec, er, el, ev, em, en, et, eu)

@@ -15,6 +15,13 @@ mostCodes = 16
 abbrev pub mostCapacities : ℕ
 mostCapacities = mostSlots * mostCodes
 
+-- physical channels of an uplink slot
+abbrev pub mostPaired : ℕ
+mostPaired = 2
+
+abbrev pub mostLogs : ℕ
+mostLogs = mostSlots * mostPaired
+
 -- the sum of all equalised sizes, and that of all capacities
 abbrev pub mostBits : ℕ
 mostBits = 60000
@@ -36,9 +43,20 @@ mostRatio = 256
 abbrev pub mostCapacity : ℕ
 mostCapacity = 4095
 
--- the bits that the fields of the longest sheet need, and its bytes
-abbrev pub mostNeeded : ℕ
-mostNeeded = channelAt mostChannels + slotWidth mostCodes * mostSlots
+-- the base-two logarithm of an uplink spreading factor
+abbrev pub mostLog : ℕ
+mostLog = 4
+
+-- the bits that the fields of the longest sheet need that is accepted, and its bytes: in downlink, since an uplink slot has two codes at most
+abbrev pub sheetNeeded : ℕ
+sheetNeeded = channelAt mostChannels + slotWidth 0 mostCodes * mostSlots
 
 abbrev pub longestSheet : ℕ
-longestSheet = (mostNeeded + 7) / 8
+longestSheet = (sheetNeeded + 7) / 8
+
+-- and those of the longest that has a sheet's form: its fields are each in range, though 13 refuses it
+abbrev pub mostNeeded : ℕ
+mostNeeded = channelAt mostChannels + slotWidth 1 mostCodes * mostSlots
+
+abbrev pub longestForm : ℕ
+longestForm = (mostNeeded + 7) / 8

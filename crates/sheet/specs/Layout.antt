@@ -3,7 +3,7 @@ use mathlib.Core.List.{List, [], _∷_}
 use Prim.Native.Nat.{ℕ, zero, suc, _+_, _-_, _*_}
 use lib.ListN.{getD}
 
--- the head: version, mode, I-1, T, and four bits that are spare
+-- the head: version, mode, I-1, T, uplink, and three bits that are spare
 abbrev pub headWidths : List ℕ
 headWidths = 4 ∷ 1 ∷ 3 ∷ 4 ∷ 1 ∷ 1 ∷ 1 ∷ 1 ∷ []
 
@@ -22,9 +22,12 @@ encodedWidth = 14
 abbrev pub ratioWidth : ℕ
 ratioWidth = 8
 
--- a slot: P-1, and U, P times
+-- a slot: P-1, and P times, in uplink the logarithm of the spreading factor, which downlink has not, and U. `up` is 1 in uplink and else 0
 abbrev pub codesWidth : ℕ
 codesWidth = 4
+
+abbrev pub logWidth : ℕ → ℕ
+logWidth up = 3 * up
 
 abbrev pub capacityWidth : ℕ
 capacityWidth = 12
@@ -33,9 +36,9 @@ capacityWidth = 12
 abbrev pub channelAt : ℕ → ℕ
 channelAt i = widthTo headWidths 8 + (ttiWidth + encodedWidth + ratioWidth) * i
 
--- the bits of a slot of p physical channels, and the bit, counted from the slot's first, at which its capacity p begins
-abbrev pub slotWidth : ℕ → ℕ
-slotWidth p = codesWidth + capacityWidth * p
+-- the bits of a slot of p physical channels, and the bit, counted from the slot's first, at which what it has of its physical channel p begins
+abbrev pub slotWidth : ℕ → ℕ → ℕ
+slotWidth up p = codesWidth + (logWidth up + capacityWidth) * p
 
 -- the fields of the head by their names
 abbrev pub versionAt : ℕ
@@ -62,9 +65,15 @@ slotsAt = widthTo headWidths 3
 abbrev pub slotsWidth : ℕ
 slotsWidth = getD headWidths 3 0
 
+abbrev pub uplinkAt : ℕ
+uplinkAt = widthTo headWidths 4
+
+abbrev pub uplinkWidth : ℕ
+uplinkWidth = getD headWidths 4 0
+
 -- the spare bits, as the code reads and writes them at once
 abbrev pub spareAt : ℕ
-spareAt = widthTo headWidths 4
+spareAt = widthTo headWidths 5
 
 abbrev pub spareWidth : ℕ
 spareWidth = widthTo headWidths 8 - spareAt

@@ -1,5 +1,5 @@
--- The lines of the table of numbers that a sheet alone has, 1 to 8, and what reading a sheet answers.
-use mathlib.Core.Bool.{Bool, not, _||_}
+-- The lines of the table of numbers that a sheet alone has, 1 to 5, 13, and 6 to 8, and what reading a sheet answers.
+use mathlib.Core.Bool.{Bool, not, _&&_, _||_}
 use mathlib.Core.List.{List, [], _∷_}
 use Prim.Native.Nat.{ℕ, _+_, _-_, _*_}
 use lib.Dec.{eqb, ltb}
@@ -7,8 +7,8 @@ use lib.ListN.{length, getD}
 use Rattle.laws.specs.Sums.{sumTo, anyTo}
 use Rattle.counters.specs.Lines.{Line, line, firstOf, given}
 use Rattle.bits.specs.Bits.{bitsAt}
-use Rattle.sheet.specs.Counts.{mostCodes, mostBits}
-use Rattle.sheet.specs.Fields.{sparesIn, sheetOf, blank, encodedOf, phchsOf, capacityOf}
+use Rattle.sheet.specs.Counts.{mostCodes, mostPaired, mostBits, mostLog}
+use Rattle.sheet.specs.Fields.{sparesIn, sheetOf, blank, encodedOf, phchsOf, capacityOf, logIn}
 use Rattle.sheet.specs.Sizes.{equalisedAll, placesAll, capacityAll, bitsNeeded, bytesNeeded}
 use Rattle.sheet.specs.declared.sizes.Load.{Load}
 use Rattle.sheet.specs.declared.Sheet.{Sheet}
@@ -23,6 +23,16 @@ misfit s =
 -- 5: a capacity is 0
 abbrev pub emptyPlace : Sheet → Bool
 emptyPlace sh = anyTo (λ t. anyTo (λ p. eqb (capacityOf sh t p) 0) (phchsOf sh t)) (sh .slots)
+
+-- 13: an uplink slot has more than two physical channels, or a logarithm over 4
+abbrev pub slotBeyond : List ℕ → ℕ → ℕ → Bool
+slotBeyond logs t n = ltb mostPaired n || anyTo (λ p. ltb mostLog (logIn logs t p)) n
+
+abbrev pub someBeyond : List ℕ → List ℕ → ℕ → Bool
+someBeyond phchs logs n = anyTo (λ t. slotBeyond logs t (getD phchs t 0)) n
+
+abbrev pub beyondUplink : Sheet → Bool
+beyondUplink sh = not (eqb (sh .uplink) 0) && someBeyond (sh .phchs) (sh .logs) (sh .slots)
 
 -- what n capacities from `from` on come to, and those of n slots
 abbrev pub slotLoad : List ℕ → ℕ → ℕ → Load
@@ -48,6 +58,7 @@ silent sh = not (anyTo (λ i. not (eqb (encodedOf sh i) 0)) (sh .channels))
 abbrev pub loadLines : Sheet → List Line
 loadLines sh =
     line (emptyPlace sh) 5 ∷
+    line (beyondUplink sh) 13 ∷
     line (ltb mostBits (equalisedAll sh)) 6 ∷
     line (ltb mostBits (capacityAll sh)) 7 ∷
     line (silent sh) 8 ∷

@@ -8,9 +8,10 @@ use Rattle.sheet.specs.Fields.{ttiOf, encodedOf, ratioOf, phchsOf, capac
 use Rattle.sheet.specs.Numbers.{loadLines}
 use Rattle.sheet.specs.declared.Sheet.{Sheet}
 
--- each field that a sheet has is within its range; a capacity may be 0, which is number 5
+-- each field that a sheet has is within its range; a capacity may be 0, which is number 5, and a logarithm over 4, which is number 13
 pub record Ranged (sh : Sheet) : Type 0 where
   pub mode : sh .mode ≤ 1
+  pub uplink : sh .uplink ≤ 1
   pub one : 1 ≤ sh .channels
   pub few-channels : sh .channels ≤ mostChannels
   pub few-slots : sh .slots ≤ mostSlots

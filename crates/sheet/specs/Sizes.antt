@@ -48,7 +48,7 @@ capacityAll sh = subframesOf sh * placesAll sh
 
 -- the bit at which slot t begins, and the bits and the bytes that the fields need
 abbrev pub slotAt : Sheet → ℕ → ℕ
-slotAt sh t = channelAt (sh .channels) + sumTo (λ k. slotWidth (phchsOf sh k)) t
+slotAt sh t = channelAt (sh .channels) + sumTo (λ k. slotWidth (sh .uplink) (phchsOf sh k)) t
 
 abbrev pub bitsNeeded : Sheet → ℕ
 bitsNeeded sh = slotAt sh (sh .slots)

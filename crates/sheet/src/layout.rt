@@ -1,6 +1,6 @@
 // Where the fields of a sheet stand in its bits, and how wide they are; specs/Layout.antt has the same for the definitions.
 
-// The head: version, mode, I-1, T, and four bits that are spare, which are read and written at once.
+// The head: version, mode, I-1, T, uplink, and three bits that are spare, which are read and written at once.
 pub const VERSION_AT: usize = 0;
 
 pub const VERSION_WIDTH: usize = 4;
@@ -17,9 +17,13 @@ pub const SLOTS_AT: usize = 8;
 
 pub const SLOTS_WIDTH: usize = 4;
 
-pub const SPARE_AT: usize = 12;
+pub const UPLINK_AT: usize = 12;
 
-pub const SPARE_WIDTH: usize = 4;
+pub const UPLINK_WIDTH: usize = 1;
+
+pub const SPARE_AT: usize = 13;
+
+pub const SPARE_WIDTH: usize = 3;
 
 pub const HEAD_WIDTH: usize = 16;
 
@@ -32,7 +36,9 @@ pub const RATIO_WIDTH: usize = 8;
 
 pub const CHANNEL_WIDTH: usize = TTI_WIDTH + ENCODED_WIDTH + RATIO_WIDTH;
 
-// A slot: P-1, and U, P times.
+// A slot: P-1, and P times, in uplink alone the logarithm of the spreading factor, and U.
 pub const CODES_WIDTH: usize = 4;
+
+pub const LOG_WIDTH: usize = 3;
 
 pub const CAPACITY_WIDTH: usize = 12;

@@ -11,20 +11,24 @@ pub mod sizes;
 
 use counts::CAPACITIES;
 use counts::CHANNELS;
+use counts::LOGS;
 use counts::SLOTS;
 
-// The fields of a sheet, each wide enough for values out of its range: version, mode, I, T; TTI, E and RM of each channel; P of each slot;
-// U of physical channel p of slot t, both counted from 0, at 16 t + p. Room past I, T or P holds no field.
+// The fields of a sheet, each wide enough for values out of its range: version, mode, I, T, uplink; TTI, E and RM of each channel; P of each
+// slot; U of physical channel p of slot t, both counted from 0, at 16 t + p; for p below 2 the logarithm of its spreading factor at 2 t + p, since an
+// uplink slot has no more. Room past I, T or P holds no field, and in downlink the logarithms hold none.
 pub struct Sheet {
     pub version: u16,
     pub mode: u16,
     pub channels: u16,
     pub slots: u16,
+    pub uplink: u16,
     pub tti: [u16; CHANNELS],
     pub e: [u16; CHANNELS],
     pub rm: [u16; CHANNELS],
     pub phchs: [u16; SLOTS],
     pub caps: [u16; CAPACITIES],
+    pub logs: [u16; LOGS],
 }
 
 // What reading a sheet answers: its number, and its fields where that is 0.
@@ -42,11 +46,13 @@ pub fn none() -> Sheet
         mode: 0,
         channels: 0,
         slots: 0,
+        uplink: 0,
         tti: [0; CHANNELS],
         e: [0; CHANNELS],
         rm: [0; CHANNELS],
         phchs: [0; SLOTS],
         caps: [0; CAPACITIES],
+        logs: [0; LOGS],
     }
 }
 

@@ -3,7 +3,8 @@ ghost use mathlib.Core.Path.{_≡_};
 ghost use mathlib.Core.Bool.{_||_};
 ghost use Prim.Native.Nat.{ℕ, _+_, _*_, _≤_, _<_};
 ghost use lib.ListN.{getD};
-ghost use Rattle.sheet.specs.Counts.{mostChannels, mostSlots, mostCodes, mostCapacities, mostTti, mostFrames, mostNeeded, longestSheet};
+ghost use Rattle.sheet.specs.Counts.{mostChannels, mostSlots, mostCodes, mostCapacities, mostTti, mostFrames, mostNeeded, longestForm};
+ghost use Rattle.sheet.specs.Layout.{slotWidth};
 ghost use Rattle.sheet.specs.Sizes.{framesIn, segmentIn, encodedAll, equalisedAll, bitsNeeded, bytesNeeded};
 ghost use Rattle.sheet.specs.Numbers.{slotLoad, wholeLoad};
 ghost use Rattle.sheet.specs.Range.{Ranged};
@@ -16,6 +17,7 @@ use crate::layout::CAPACITY_WIDTH;
 use crate::layout::CHANNEL_WIDTH;
 use crate::layout::CODES_WIDTH;
 use crate::layout::HEAD_WIDTH;
+use crate::layout::LOG_WIDTH;
 use crate::wide;
 
 // What capacities come to: whether one of them is 0, and their sum.
@@ -130,6 +132,14 @@ pub fn whole_load<'a>(phchs: &'a [u16; SLOTS], caps: &'a [u16; CAPACITIES], n: u
     Load { empty, sum }
 }
 
+// The bits of a slot of p physical channels.
+pub fn slot_width(up: u16, p: u16) -> usize
+    requires { ⌜ (up ≤ 1) × (p ≤ mostCodes) ⌝ }
+    ensures { λ r. ⌜ (r ≡ slotWidth up p) × (r ≤ slotWidth 1 mostCodes) ⌝ }
+{
+    CODES_WIDTH + (LOG_WIDTH * count(up) + CAPACITY_WIDTH) * count(p)
+}
+
 // The bits that the fields need.
 pub fn bits_needed(fields: Sheet) -> usize
     requires { ⌜ Ranged fields ⌝ }
@@ -137,10 +147,11 @@ pub fn bits_needed(fields: Sheet) -> usize
 {
     let n = count(fields.slots);
     let phchs = fields.phchs;
+    let up = fields.uplink;
     let mut sum: usize = HEAD_WIDTH + CHANNEL_WIDTH * count(fields.channels);
     let mut t: usize = 0;
     while t < n {
-        sum += CODES_WIDTH + CAPACITY_WIDTH * count(phchs[t]);
+        sum += slot_width(up, phchs[t]);
         t += 1;
     }
     sum
@@ -149,7 +160,7 @@ pub fn bits_needed(fields: Sheet) -> usize
 // The bytes that the fields need.
 pub fn bytes_needed(fields: Sheet) -> usize
     requires { ⌜ Ranged fields ⌝ }
-    ensures { λ r. ⌜ (r ≡ bytesNeeded fields) × (r ≤ longestSheet) ⌝ }
+    ensures { λ r. ⌜ (r ≡ bytesNeeded fields) × (r ≤ longestForm) ⌝ }
 {
     (bits_needed(fields) + 7) / 8
 }

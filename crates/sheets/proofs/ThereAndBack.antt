@@ -6,7 +6,7 @@ use lib.ListN.{length, getD}
 use Rattle.laws.proofs.TableLaws.{table-length}
 use Rattle.counters.specs.Lines.{firstOf}
 use Rattle.counters.proofs.LineLaws.{pass-zero}
-use Rattle.sheet.specs.Counts.{mostChannels, mostSlots, mostCapacities}
+use Rattle.sheet.specs.Counts.{mostChannels, mostSlots, mostCapacities, mostLogs}
 use Rattle.sheet.specs.Fields.{sheetOf}
 use Rattle.sheet.specs.Numbers.{readNumber}
 use Rattle.sheet.specs.declared.Sheet.{Sheet}
@@ -22,7 +22,8 @@ use Rattle.sheets.specs.Sheets.{notFlat, readInto, writeInto, writeFromL
 use Rattle.sheets.proofs.FlatLaws.{Shaped, flat-long, flat-back}
 use Rattle.sheets.proofs.SheetLaws.{read-laid, write-flat}
 
--- what was written from the fields of a row is accepted, and read into a row it is those fields, with zeros past I, T and P
+-- what was written from the fields of a row is accepted, and read into a row it is those fields, with zeros past I, T and P and, in downlink, for
+-- the logarithms
 pub written-read : (l : List ℕ) (n : ℕ) (old : List ℕ) → firstOf (writeFromLines l n) ≡ 0 → length old ≡ flatCount
     → outcome 0 flatCount (flatOf (trimmed (sheetFrom l))) ≡ readInto (bytesOf (sheetFrom l)) old
 written-read l n old h e =
@@ -39,6 +40,7 @@ read-shaped s =
       rm = table-length _ 0 mostChannels;
       phchs = table-length _ 0 mostSlots;
       caps = table-length _ 0 mostCapacities;
+      logs = table-length _ 0 mostLogs;
     }
 
 -- the row that an accepted sheet is read into is written to the same bytes

@@ -11,13 +11,13 @@ use lib.Seq.{getD-append-add}
 use Rattle.laws.proofs.TableLaws.{table-at}
 use Rattle.bits.specs.Bits.{val, digit, field}
 use Rattle.bits.proofs.BitLaws.{val-field, field-after, digit-val}
-use Rattle.sheet.specs.Layout.{headWidths, widthTo, versionAt, versionWidth, modeAt, modeWidth, countAt, countWidth, slotsAt, slotsWidth, ttiWidth, encodedWidth, ratioWidth, codesWidth, capacityWidth, channelAt, slotWidth}
-use Rattle.sheet.specs.Fields.{ttiOf, encodedOf, ratioOf, phchsOf, capacityOf}
+use Rattle.sheet.specs.Layout.{headWidths, widthTo, versionAt, versionWidth, modeAt, modeWidth, countAt, countWidth, slotsAt, slotsWidth, uplinkAt, uplinkWidth, ttiWidth, encodedWidth, ratioWidth, codesWidth, logWidth, capacityWidth, channelAt, slotWidth}
+use Rattle.sheet.specs.Fields.{ttiOf, encodedOf, ratioOf, phchsOf, capacityOf, logOf}
 use Rattle.sheet.specs.Sizes.{slotAt}
 use Rattle.sheet.specs.Range.{Ranged}
 use Rattle.sheet.specs.declared.Sheet.{Sheet}
-use Rattle.writing.specs.Written.{headValues, headTo, headBits, channelBits, capacityBits, slotsBits, sheetBits}
-use Rattle.writing.proofs.HoldLaws.{toTti, toEncoded, head-length, channel-length, tti-length, encoded-length, slots-length, caps-length}
+use Rattle.writing.specs.Written.{headValues, headTo, headBits, channelBits, codeBits, slotsBits, sheetBits}
+use Rattle.writing.proofs.HoldLaws.{toTti, toEncoded, toLog, head-length, channel-length, tti-length, encoded-length, slots-length, codes-length, logs-length}
 
 pub record Begins (f : ℕ → ℕ) (l : List ℕ) : Type 0 where
   pub bit : (i : ℕ) → i < length l → f i ≡ getD l i 0
@@ -73,22 +73,22 @@ module _ (sh : Sheet) (f : ℕ → ℕ) where
   unfolding headTo
   head-less k h = begins-before (field (getD headWidths k 0) (getD (headValues sh) k 0)) h
 
-  capacity-less : (t : ℕ) (b : List ℕ) (p : ℕ) → Begins f (capacityBits sh t b (suc p)) → Begins f (capacityBits sh t b p)
-  unfolding capacityBits
-  capacity-less t b p h = begins-before (field capacityWidth (capacityOf sh t p)) h
+  code-less : (t : ℕ) (b : List ℕ) (p : ℕ) → Begins f (codeBits sh t b (suc p)) → Begins f (codeBits sh t b p)
+  unfolding codeBits
+  code-less t b p h = begins-before (field (logWidth (sh .uplink)) (logOf sh t p)) (begins-before (field capacityWidth (capacityOf sh t p)) h)
 
-  capacity-none : (t : ℕ) (b : List ℕ) → Begins f (capacityBits sh t b 0) → Begins f b
-  unfolding capacityBits
-  capacity-none t b h = begins-before (field codesWidth (phchsOf sh t - 1)) h
+  code-none : (t : ℕ) (b : List ℕ) → Begins f (codeBits sh t b 0) → Begins f b
+  unfolding codeBits
+  code-none t b h = begins-before (field codesWidth (phchsOf sh t - 1)) h
 
-  slot-whole : (t : ℕ) → Begins f (slotsBits sh (suc t)) → Begins f (capacityBits sh t (slotsBits sh t) (phchsOf sh t))
+  slot-whole : (t : ℕ) → Begins f (slotsBits sh (suc t)) → Begins f (codeBits sh t (slotsBits sh t) (phchsOf sh t))
   unfolding slotsBits
   slot-whole t h = h
 
   slot-less : (t : ℕ) → Begins f (slotsBits sh (suc t)) → Begins f (slotsBits sh t)
   slot-less t h =
-      capacity-none t (slotsBits sh t)
-      (chain-down f (capacityBits sh t (slotsBits sh t)) (capacity-less t (slotsBits sh t)) (phchsOf sh t) 0 (omega arith) (slot-whole t h))
+      code-none t (slotsBits sh t)
+      (chain-down f (codeBits sh t (slotsBits sh t)) (code-less t (slotsBits sh t)) (phchsOf sh t) 0 (omega arith) (slot-whole t h))
 
   no-slot : Begins f (slotsBits sh 0) → Begins f (channelBits sh (sh .channels))
   unfolding slotsBits
@@ -102,9 +102,9 @@ module _ (sh : Sheet) (f : ℕ → ℕ) where
     slots-begin : (t : ℕ) → t ≤ sh .slots → Begins f (slotsBits sh t)
     slots-begin t l = chain-down f (slotsBits sh) slot-less (sh .slots) t l h
 
-    caps-begin : (t p : ℕ) → t < sh .slots → p ≤ phchsOf sh t → Begins f (capacityBits sh t (slotsBits sh t) p)
-    caps-begin t p l k =
-        chain-down f (capacityBits sh t (slotsBits sh t)) (capacity-less t (slotsBits sh t)) (phchsOf sh t) p k (slot-whole t (slots-begin (suc t) l))
+    codes-begin : (t p : ℕ) → t < sh .slots → p ≤ phchsOf sh t → Begins f (codeBits sh t (slotsBits sh t) p)
+    codes-begin t p l k =
+        chain-down f (codeBits sh t (slotsBits sh t)) (code-less t (slotsBits sh t)) (phchsOf sh t) p k (slot-whole t (slots-begin (suc t) l))
 
     channels-begin : (i : ℕ) → i ≤ sh .channels → Begins f (channelBits sh i)
     channels-begin i l = chain-down f (channelBits sh) channel-less (sh .channels) i l (no-slot (slots-begin 0 (omega arith)))
@@ -133,6 +133,9 @@ module _ (sh : Sheet) (f : ℕ → ℕ) where
       pub read-slots : val f slotsAt slotsWidth ≡ sh .slots
       read-slots = read-head 3 (omega arith) (omega (arith, r .few-slots))
 
+      pub read-uplink : val f uplinkAt uplinkWidth ≡ sh .uplink
+      read-uplink = read-head 4 (omega arith) (omega (arith, r .uplink))
+
       pub read-spare : (k : ℕ) → k < 8 → getD (headValues sh) k 0 ≡ 0 → val f (widthTo headWidths k) (getD headWidths k 0) ≡ 0
       read-spare k l z = read-head k l (subst (λ (x : ℕ). x < 2 ^ getD headWidths k 0) (sym z) (pow-pos (getD headWidths k 0))) ∙ z
 
@@ -155,13 +158,21 @@ module _ (sh : Sheet) (f : ℕ → ℕ) where
           (omega (arith, r .ratio256 i l)) (channels-begin (suc i) l)
 
       pub read-phchs : (t : ℕ) → t < sh .slots → val f (slotAt sh t) codesWidth ≡ phchsOf sh t - 1
-      unfolding capacityBits
+      unfolding codeBits
       read-phchs t l =
           begins-val f (slotsBits sh t) (slotAt sh t) codesWidth (phchsOf sh t - 1) (slots-length sh t) (omega (arith, r .phch16 t l))
-          (caps-begin t 0 l (omega arith))
+          (codes-begin t 0 l (omega arith))
 
-      pub read-capacity : (t p : ℕ) → t < sh .slots → p < phchsOf sh t → val f (slotAt sh t + slotWidth p) capacityWidth ≡ capacityOf sh t p
-      unfolding capacityBits
+      pub read-log : (t p : ℕ) → t < sh .slots → p < phchsOf sh t → logOf sh t p < 2 ^ logWidth (sh .uplink)
+          → val f (slotAt sh t + slotWidth (sh .uplink) p) (logWidth (sh .uplink)) ≡ logOf sh t p
+      unfolding codeBits
+      read-log t p l k b =
+          begins-val f (codeBits sh t (slotsBits sh t) p) (slotAt sh t + slotWidth (sh .uplink) p) (logWidth (sh .uplink)) (logOf sh t p)
+          (codes-length sh t p) b (begins-before (field capacityWidth (capacityOf sh t p)) (codes-begin t (suc p) l k))
+
+      pub read-capacity : (t p : ℕ) → t < sh .slots → p < phchsOf sh t
+          → val f (slotAt sh t + slotWidth (sh .uplink) p + logWidth (sh .uplink)) capacityWidth ≡ capacityOf sh t p
+      unfolding codeBits
       read-capacity t p l k =
-          begins-val f (capacityBits sh t (slotsBits sh t) p) (slotAt sh t + slotWidth p) capacityWidth (capacityOf sh t p) (caps-length sh t p)
-          (omega (arith, r .caps t p l k)) (caps-begin t (suc p) l k)
+          begins-val f (toLog sh t p) (slotAt sh t + slotWidth (sh .uplink) p + logWidth (sh .uplink)) capacityWidth (capacityOf sh t p)
+          (logs-length sh t p) (omega (arith, r .caps t p l k)) (codes-begin t (suc p) l k)

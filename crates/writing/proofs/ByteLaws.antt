@@ -14,10 +14,10 @@ use Rattle.counters.specs.declared.Answer.{Answer}
 use Rattle.counters.proofs.LineLaws.{given-yes, given-no}
 use Rattle.bits.specs.Bits.{digit, field}
 use Rattle.bits.proofs.BitLaws.{field-length}
-use Rattle.sheet.specs.Layout.{headWidths, ttiWidth, encodedWidth, ratioWidth, codesWidth, capacityWidth}
+use Rattle.sheet.specs.Layout.{headWidths, ttiWidth, encodedWidth, ratioWidth, codesWidth, logWidth, capacityWidth}
 use Rattle.sheet.specs.Fields.{phchsOf}
 use Rattle.sheet.specs.declared.Sheet.{Sheet}
-use Rattle.writing.specs.Written.{headTo, channelBits, capacityBits, slotsBits}
+use Rattle.writing.specs.Written.{headTo, channelBits, codeBits, slotsBits}
 
 pub record Binary (l : List ℕ) : Type 0 where
   pub below : (i : ℕ) → getD l i 0 < 2
@@ -52,15 +52,15 @@ module _ (sh : Sheet) where
   channel-binary zero = head-binary 8
   channel-binary (suc i) = binary-more _ ratioWidth _ (binary-more _ encodedWidth _ (binary-more _ ttiWidth _ (channel-binary i)))
 
-  capacity-binary : (t : ℕ) (b : List ℕ) (p : ℕ) → Binary b → Binary (capacityBits sh t b p)
-  unfolding capacityBits
-  capacity-binary t b zero h = binary-more b codesWidth _ h
-  capacity-binary t b (suc p) h = binary-more _ capacityWidth _ (capacity-binary t b p h)
+  code-binary : (t : ℕ) (b : List ℕ) (p : ℕ) → Binary b → Binary (codeBits sh t b p)
+  unfolding codeBits
+  code-binary t b zero h = binary-more b codesWidth _ h
+  code-binary t b (suc p) h = binary-more _ capacityWidth _ (binary-more _ (logWidth (sh .uplink)) _ (code-binary t b p h))
 
   pub slots-binary : (t : ℕ) → Binary (slotsBits sh t)
   unfolding slotsBits
   slots-binary zero = channel-binary (sh .channels)
-  slots-binary (suc t) = capacity-binary t (slotsBits sh t) (phchsOf sh t) (slots-binary t)
+  slots-binary (suc t) = code-binary t (slotsBits sh t) (phchsOf sh t) (slots-binary t)
 
 -- the answers, from the number k that the code has
 module _ (n count k : ℕ) (e : k ≡ n) where

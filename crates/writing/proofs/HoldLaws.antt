@@ -12,16 +12,17 @@ use Rattle.laws.specs.Sums.{sumTo}
 use Rattle.laws.proofs.TableLaws.{zeros-at}
 use Rattle.bits.specs.Bits.{field}
 use Rattle.bits.proofs.BitLaws.{field-length, field-after, paste-before, paste-inside, paste-after}
-use Rattle.sheet.specs.Counts.{mostChannels, longestSheet}
-use Rattle.sheet.specs.Layout.{headWidths, widthTo, versionAt, versionWidth, modeAt, modeWidth, countAt, countWidth, slotsAt, slotsWidth, spareAt, spareWidth, ttiWidth, encodedWidth, ratioWidth, codesWidth, capacityWidth, channelAt, slotWidth}
-use Rattle.sheet.specs.Fields.{ttiOf, encodedOf, ratioOf, phchsOf, capacityOf}
+use Rattle.sheet.specs.Counts.{mostChannels, longestForm}
+use Rattle.sheet.specs.Layout.{headWidths, widthTo, versionAt, versionWidth, modeAt, modeWidth, countAt, countWidth, slotsAt, slotsWidth, uplinkAt, uplinkWidth, spareAt, spareWidth, ttiWidth, encodedWidth, ratioWidth, codesWidth, logWidth, capacityWidth, channelAt, slotWidth}
+use Rattle.sheet.specs.Fields.{ttiOf, encodedOf, ratioOf, phchsOf, capacityOf, logOf}
 use Rattle.sheet.specs.Sizes.{slotAt}
 use Rattle.sheet.specs.declared.Sheet.{Sheet}
-use Rattle.writing.specs.Written.{headValues, headTo, headBits, channelBits, capacityBits, slotsBits, Holds}
+use Rattle.writing.specs.Written.{headValues, headTo, headBits, channelBits, codeBits, slotsBits, Holds}
+use Rattle.sheet.proofs.SlotLaws.{width-more}
 
 -- the bits that the writer has room for
 abbrev pub room : ℕ
-room = 8 * longestSheet
+room = 8 * longestForm
 
 pub holds-zeros : (n : ℕ) → length {A = ℕ} (replicate n 0) ≡ n → Holds (replicate n 0) n []
 holds-zeros n e = record { long = e; same = zeros-at n }
@@ -67,6 +68,10 @@ module _ (sh : Sheet) where
   abbrev pub toEncoded : ℕ → List ℕ
   toEncoded i = toTti i ++ field encodedWidth (encodedOf sh i)
 
+  -- the bits before physical channel p of slot t with its logarithm
+  abbrev pub toLog : ℕ → ℕ → List ℕ
+  toLog t p = codeBits sh t (slotsBits sh t) p ++ field (logWidth (sh .uplink)) (logOf sh t p)
+
   -- how long the bits are
   pub head-length : (k : ℕ) → length (headTo sh k) ≡ widthTo headWidths k
   unfolding headTo
@@ -91,30 +96,40 @@ module _ (sh : Sheet) where
   pub encoded-length : (i : ℕ) → length (toEncoded i) ≡ channelAt i + (ttiWidth + encodedWidth)
   encoded-length i = field-after (toTti i) encodedWidth (encodedOf sh i) ∙ omega (arith, tti-length i)
 
-  capacity-length : (t : ℕ) (b : List ℕ) (p : ℕ) → length (capacityBits sh t b p) ≡ length b + slotWidth p
-  unfolding capacityBits
-  capacity-length t b zero = field-after b codesWidth (phchsOf sh t - 1) ∙ omega arith
-  capacity-length t b (suc p) = field-after (capacityBits sh t b p) capacityWidth (capacityOf sh t p) ∙ omega (arith, capacity-length t b p)
+  code-length : (t : ℕ) (b : List ℕ) (p : ℕ) → length (codeBits sh t b p) ≡ length b + slotWidth (sh .uplink) p
+  unfolding codeBits
+  code-length t b zero = field-after b codesWidth (phchsOf sh t - 1) ∙ omega arith
+  code-length t b (suc p) =
+      field-after (codeBits sh t b p ++ field (logWidth (sh .uplink)) (logOf sh t p)) capacityWidth (capacityOf sh t p)
+      ∙ omega (
+        arith,
+        field-after (codeBits sh t b p) (logWidth (sh .uplink)) (logOf sh t p),
+        code-length t b p,
+        width-more (sh .uplink) p,
+      )
 
   pub slots-length : (t : ℕ) → length (slotsBits sh t) ≡ slotAt sh t
   unfolding slotsBits sumTo
   slots-length zero = channel-length (sh .channels) ∙ omega arith
-  slots-length (suc t) = capacity-length t (slotsBits sh t) (phchsOf sh t) ∙ omega (arith, slots-length t)
+  slots-length (suc t) = code-length t (slotsBits sh t) (phchsOf sh t) ∙ omega (arith, slots-length t)
 
-  pub caps-length : (t p : ℕ) → length (capacityBits sh t (slotsBits sh t) p) ≡ slotAt sh t + slotWidth p
-  caps-length t p = capacity-length t (slotsBits sh t) p ∙ ap (λ (x : ℕ). x + slotWidth p) (slots-length t)
+  pub codes-length : (t p : ℕ) → length (codeBits sh t (slotsBits sh t) p) ≡ slotAt sh t + slotWidth (sh .uplink) p
+  codes-length t p = code-length t (slotsBits sh t) p ∙ ap (λ (x : ℕ). x + slotWidth (sh .uplink) p) (slots-length t)
 
-  -- one more channel, capacity, slot
+  pub logs-length : (t p : ℕ) → length (toLog t p) ≡ slotAt sh t + slotWidth (sh .uplink) p + logWidth (sh .uplink)
+  logs-length t p =
+      field-after (codeBits sh t (slotsBits sh t) p) (logWidth (sh .uplink)) (logOf sh t p) ∙ ap (λ (x : ℕ). x + logWidth (sh .uplink)) (codes-length t p)
+
+  -- one more channel, physical channel, slot
   channel-more : (i : ℕ) → toEncoded i ++ field ratioWidth (ratioOf sh i - 1) ≡ channelBits sh (i + 1)
   unfolding channelBits
   channel-more i = rw (add-one i)
 
-  capacity-more : (t : ℕ) (b : List ℕ) (p : ℕ)
-      → capacityBits sh t b p ++ field capacityWidth (capacityOf sh t p) ≡ capacityBits sh t b (p + 1)
-  unfolding capacityBits
-  capacity-more t b p = rw (add-one p)
+  code-more : (t p : ℕ) → toLog t p ++ field capacityWidth (capacityOf sh t p) ≡ codeBits sh t (slotsBits sh t) (p + 1)
+  unfolding codeBits
+  code-more t p = rw (add-one p)
 
-  pub slots-more : (t : ℕ) → capacityBits sh t (slotsBits sh t) (phchsOf sh t) ≡ slotsBits sh (t + 1)
+  pub slots-more : (t : ℕ) → codeBits sh t (slotsBits sh t) (phchsOf sh t) ≡ slotsBits sh (t + 1)
   unfolding slotsBits
   slots-more t = rw (add-one t)
 
@@ -126,22 +141,23 @@ module _ (sh : Sheet) where
   head-more k fits bs h q p = holds-more bs room (headTo sh k) (widthTo headWidths k) (getD headWidths k 0) (getD (headValues sh) k 0) h (head-length k) fits q p
 
   -- the spare bits at once are the spare bits one after the other
-  spares-put : headTo sh 4 ++ field spareWidth 0 ≡ headBits sh
+  spares-put : headTo sh 5 ++ field spareWidth 0 ≡ headBits sh
   unfolding headTo table
   spares-put = simp append-assoc
 
   -- the head is put
-  pub head-put : (b : List ℕ) → Holds b room [] → {v m n t : ℕ} {b1 b2 b3 b4 b5 : List ℕ} → v ≡ sh .version → m ≡ sh .mode → n ≡ sh .channels
-      → t ≡ sh .slots → b1 ≡ paste b versionAt (field versionWidth v) versionWidth → b2 ≡ paste b1 modeAt (field modeWidth m) modeWidth
+  pub head-put : (b : List ℕ) → Holds b room [] → {v m n t u : ℕ} {b1 b2 b3 b4 b5 b6 : List ℕ} → v ≡ sh .version → m ≡ sh .mode → n ≡ sh .channels
+      → t ≡ sh .slots → u ≡ sh .uplink → b1 ≡ paste b versionAt (field versionWidth v) versionWidth → b2 ≡ paste b1 modeAt (field modeWidth m) modeWidth
       → b3 ≡ paste b2 countAt (field countWidth (n - 1)) countWidth → b4 ≡ paste b3 slotsAt (field slotsWidth t) slotsWidth
-      → b5 ≡ paste b4 spareAt (field spareWidth 0) spareWidth → Holds b5 room (headBits sh)
+      → b5 ≡ paste b4 uplinkAt (field uplinkWidth u) uplinkWidth → b6 ≡ paste b5 spareAt (field spareWidth 0) spareWidth → Holds b6 room (headBits sh)
   unfolding headTo
-  head-put b h ev em en et p1 p2 p3 p4 p5 =
+  head-put b h ev em en et eu p1 p2 p3 p4 p5 p6 =
       let h1 = head-more 0 (omega arith) b h ev p1 in
       let h2 = head-more 1 (omega arith) _ h1 em p2 in
       let h3 = head-more 2 (omega arith) _ h2 (ap (λ (x : ℕ). x - 1) en) p3 in
       let h4 = head-more 3 (omega arith) _ h3 et p4 in
-      subst (Holds _ room) spares-put (holds-more _ room (headTo sh 4) spareAt spareWidth 0 h4 (head-length 4) (omega arith) refl p5)
+      let h5 = head-more 4 (omega arith) _ h4 eu p5 in
+      subst (Holds _ room) spares-put (holds-more _ room (headTo sh 5) spareAt spareWidth 0 h5 (head-length 5) (omega arith) refl p6)
 
   -- the fields of channel i are put
   module _ (i : ℕ) (b : i < mostChannels) where
@@ -161,17 +177,23 @@ module _ (sh : Sheet) where
         (holds-more bs room (toEncoded i) (channelAt i + (ttiWidth + encodedWidth)) ratioWidth (ratioOf sh i - 1) h (encoded-length i) (omega arith)
         (ap (λ (x : ℕ). x - 1) q) p)
 
-  -- P of slot t is put, and a capacity
+  -- P of slot t is put, a logarithm, and a capacity
   module _ (t start : ℕ) (e : start ≡ slotAt sh t) where
     pub slot-put : (bs : List ℕ) → Holds bs room (slotsBits sh t) → start + codesWidth ≤ room → {u : ℕ} {r : List ℕ} → u ≡ phchsOf sh t
-        → r ≡ paste bs start (field codesWidth (u - 1)) codesWidth → Holds r room (capacityBits sh t (slotsBits sh t) 0)
-    unfolding capacityBits
+        → r ≡ paste bs start (field codesWidth (u - 1)) codesWidth → Holds r room (codeBits sh t (slotsBits sh t) 0)
+    unfolding codeBits
     slot-put bs h fits q p =
         holds-more bs room (slotsBits sh t) start codesWidth (phchsOf sh t - 1) h (slots-length t ∙ sym e) fits (ap (λ (x : ℕ). x - 1) q) p
 
-    pub capacity-put : (bs : List ℕ) (at k : ℕ) → at ≡ start + slotWidth k → at + capacityWidth ≤ room
-        → Holds bs room (capacityBits sh t (slotsBits sh t) k) → {u : ℕ} {r : List ℕ} → u ≡ capacityOf sh t k
-        → r ≡ paste bs at (field capacityWidth u) capacityWidth → Holds r room (capacityBits sh t (slotsBits sh t) (k + 1))
-    capacity-put bs at k ea fits h {u} {r} q p =
-        subst (Holds r room) (capacity-more t (slotsBits sh t) k)
-        (holds-more bs room (capacityBits sh t (slotsBits sh t) k) at capacityWidth (capacityOf sh t k) h (omega (arith, caps-length t k)) fits q p)
+    module _ (at w k : ℕ) (ea : at ≡ start + slotWidth (sh .uplink) k) (ew : w ≡ logWidth (sh .uplink)) where
+      pub log-put : (bs : List ℕ) → at + w ≤ room → Holds bs room (codeBits sh t (slotsBits sh t) k) → {u : ℕ} {r : List ℕ} → u ≡ logOf sh t k
+          → r ≡ paste bs at (field w u) w → Holds r room (toLog t k)
+      log-put bs fits h {u} {r} q p =
+          subst (λ (x : ℕ). Holds r room (codeBits sh t (slotsBits sh t) k ++ field x (logOf sh t k))) ew
+          (holds-more bs room (codeBits sh t (slotsBits sh t) k) at w (logOf sh t k) h (omega (arith, codes-length t k)) fits q p)
+
+      pub capacity-put : (bs : List ℕ) → at + w + capacityWidth ≤ room → Holds bs room (toLog t k) → {u : ℕ} {r : List ℕ} → u ≡ capacityOf sh t k
+          → r ≡ paste bs (at + w) (field capacityWidth u) capacityWidth → Holds r room (codeBits sh t (slotsBits sh t) (k + 1))
+      capacity-put bs fits h {u} {r} q p =
+          subst (Holds r room) (code-more t k)
+          (holds-more bs room (toLog t k) (at + w) capacityWidth (capacityOf sh t k) h (omega (arith, logs-length t k)) fits q p)

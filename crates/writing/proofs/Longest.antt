@@ -2,7 +2,7 @@
 use mathlib.Core.Path.{_≡_, refl, ap, _∙_}
 use lib.ListN.{length, replicate}
 use Rattle.laws.specs.Sums.{sumTo, anyTo}
-use Rattle.sheet.specs.Counts.{mostChannels, mostSlots, mostCodes, mostCapacities, longestSheet}
+use Rattle.sheet.specs.Counts.{mostChannels, mostSlots, mostCodes, mostCapacities, mostLogs, longestSheet, longestForm}
 use Rattle.sheet.specs.Sizes.{bytesNeeded, subframesOf}
 use Rattle.sheet.specs.Numbers.{readNumber}
 use Rattle.sheet.specs.declared.Sheet.{Sheet}
@@ -19,11 +19,13 @@ full =
       mode = 0;
       channels = mostChannels;
       slots = mostSlots;
+      uplink = 0;
       tti = replicate mostChannels 0;
       e = replicate mostChannels 1;
       rm = replicate mostChannels 1;
       phchs = replicate mostSlots mostCodes;
       caps = replicate mostCapacities 1;
+      logs = replicate mostLogs 0;
     }
 
 pub full-sound : fieldNumber full ≡ 0
@@ -34,9 +36,13 @@ full-need : bytesNeeded full ≡ longestSheet
 unfolding full sumTo
 full-need = refl
 
--- "The longest has 394 bytes."
+-- "The longest has 394 bytes.": the longest that is accepted
 pub longest-is : longestSheet ≡ 394
 longest-is = refl
+
+-- and the longest in form, which 13 refuses, 484
+pub form-is : longestForm ≡ 484
+form-is = refl
 
 pub full-length : length (bytesOf full) ≡ longestSheet
 full-length = bytes-length full ∙ full-need

@@ -37,8 +37,11 @@ abbrev overCapacity : Sheet → ℕ → Bool
 overCapacity sh t = anyTo (λ p. ltb mostCapacity (capacityOf sh t p)) (phchsOf sh t)
 
 module _ (sh : Sheet) (h : fieldOutside sh ≡ false) where
+  beside : (ltb 1 (sh .uplink) || (outside 1 mostChannels (sh .channels) || (ltb mostSlots (sh .slots) || (someChannel sh || someSlot sh)))) ≡ false
+  beside = or-right (ltb 1 (sh .mode)) _ h
+
   counts : (outside 1 mostChannels (sh .channels) || (ltb mostSlots (sh .slots) || (someChannel sh || someSlot sh))) ≡ false
-  counts = or-right (ltb 1 (sh .mode)) _ h
+  counts = or-right (ltb 1 (sh .uplink)) _ beside
 
   slots : (ltb mostSlots (sh .slots) || (someChannel sh || someSlot sh)) ≡ false
   slots = or-right (outside 1 mostChannels (sh .channels)) _ counts
@@ -68,6 +71,7 @@ module _ (sh : Sheet) (h : fieldOutside sh ≡ false) where
   ranged-of =
       record {
         mode = ltb-false 1 (sh .mode) (or-left _ _ h);
+        uplink = ltb-false 1 (sh .uplink) (or-left _ (outside 1 mostChannels (sh .channels) || (ltb mostSlots (sh .slots) || (someChannel sh || someSlot sh))) beside);
         one = number .0;
         few-channels = number .1;
         few-slots = ltb-false mostSlots (sh .slots) (or-left _ (someChannel sh || someSlot sh) slots);
@@ -86,6 +90,7 @@ module _ (sh : Sheet) (h : fieldOutside sh ≡ false) where
 pub inside-of : (sh : Sheet) → Ranged sh → fieldOutside sh ≡ false
 inside-of sh r =
     ap₂ _||_ (le-ltb 1 (sh .mode) (r .mode))
+    (ap₂ _||_ (le-ltb 1 (sh .uplink) (r .uplink))
     (ap₂ _||_ (not-outside 1 mostChannels (sh .channels) (r .one) (r .few-channels))
     (ap₂ _||_ (le-ltb mostSlots (sh .slots) (r .few-slots))
     (ap₂ _||_
@@ -96,7 +101,7 @@ inside-of sh r =
     (any-none (slotOutside sh) (sh .slots)
     (λ t l.
     ap₂ _||_ (not-outside 1 mostCodes (phchsOf sh t) (r .phch t l) (r .phch16 t l))
-    (any-none (λ p. ltb mostCapacity (capacityOf sh t p)) (phchsOf sh t) (λ p k. le-ltb mostCapacity _ (r .caps t p l k))))))))
+    (any-none (λ p. ltb mostCapacity (capacityOf sh t p)) (phchsOf sh t) (λ p k. le-ltb mostCapacity _ (r .caps t p l k)))))))))
 
 field-numbered : (sh : Sheet) → Numbered (fieldLines sh)
 field-numbered sh = numbered-of (fieldLines sh) refl

@@ -1,22 +1,24 @@
 -- The bits of a sheet's fields, one field after the other; its bytes; what writing answers.
 use mathlib.Core.Path.{_≡_}
+use mathlib.Core.Bool.{cond}
 use mathlib.Core.List.{List, [], _∷_, _++_}
 use Prim.Native.Nat.{ℕ, zero, suc, _-_, _*_, _/_, _%_}
+use lib.Dec.{eqb}
 use lib.ListN.{getD, length}
 use Rattle.laws.specs.Tables.{table, upTo}
 use Rattle.counters.specs.Lines.{given, answerOf}
 use Rattle.counters.specs.declared.Answer.{Answer}
 use Rattle.bits.specs.Bits.{field, packed, bitOf}
-use Rattle.sheet.specs.Counts.{mostChannels, mostSlots, mostCodes, mostCapacities}
-use Rattle.sheet.specs.Layout.{headWidths, ttiWidth, encodedWidth, ratioWidth, codesWidth, capacityWidth}
-use Rattle.sheet.specs.Fields.{ttiOf, encodedOf, ratioOf, phchsOf, capacityOf}
+use Rattle.sheet.specs.Counts.{mostChannels, mostSlots, mostCodes, mostCapacities, mostPaired, mostLogs}
+use Rattle.sheet.specs.Layout.{headWidths, ttiWidth, encodedWidth, ratioWidth, codesWidth, logWidth, capacityWidth}
+use Rattle.sheet.specs.Fields.{ttiOf, encodedOf, ratioOf, phchsOf, capacityOf, logOf}
 use Rattle.sheet.specs.Sizes.{bytesNeeded}
 use Rattle.sheet.specs.declared.Sheet.{Sheet}
 use Rattle.writing.specs.Numbers.{fieldNumber, writeNumber}
 
--- what stands in the head's fields: version, mode, I-1, T, and 0 in each that is spare
+-- what stands in the head's fields: version, mode, I-1, T, uplink, and 0 in each that is spare
 abbrev pub headValues : Sheet → List ℕ
-headValues sh = sh .version ∷ sh .mode ∷ (sh .channels - 1) ∷ sh .slots ∷ 0 ∷ 0 ∷ 0 ∷ 0 ∷ []
+headValues sh = sh .version ∷ sh .mode ∷ (sh .channels - 1) ∷ sh .slots ∷ sh .uplink ∷ 0 ∷ 0 ∷ 0 ∷ []
 
 -- the first k of them
 unfoldable pub headTo : Sheet → ℕ → List ℕ
@@ -32,15 +34,16 @@ channelBits sh zero = headBits sh
 channelBits sh (suc i) =
     ((channelBits sh i ++ field ttiWidth (ttiOf sh i)) ++ field encodedWidth (encodedOf sh i)) ++ field ratioWidth (ratioOf sh i - 1)
 
--- bits before, then P-1 of slot t and the first p of its capacities
-unfoldable pub capacityBits : Sheet → ℕ → List ℕ → ℕ → List ℕ
-capacityBits sh t before zero = before ++ field codesWidth (phchsOf sh t - 1)
-capacityBits sh t before (suc p) = capacityBits sh t before p ++ field capacityWidth (capacityOf sh t p)
+-- bits before, then P-1 of slot t, and of its first p physical channels, in uplink, the logarithm, and U
+unfoldable pub codeBits : Sheet → ℕ → List ℕ → ℕ → List ℕ
+codeBits sh t before zero = before ++ field codesWidth (phchsOf sh t - 1)
+codeBits sh t before (suc p) =
+    (codeBits sh t before p ++ field (logWidth (sh .uplink)) (logOf sh t p)) ++ field capacityWidth (capacityOf sh t p)
 
 -- the head, the channels and the first t slots
 unfoldable pub slotsBits : Sheet → ℕ → List ℕ
 slotsBits sh zero = channelBits sh (sh .channels)
-slotsBits sh (suc t) = capacityBits sh t (slotsBits sh t) (phchsOf sh t)
+slotsBits sh (suc t) = codeBits sh t (slotsBits sh t) (phchsOf sh t)
 
 abbrev pub sheetBits : Sheet → List ℕ
 sheetBits sh = slotsBits sh (sh .slots)
@@ -60,7 +63,11 @@ writeAnswer sh old = answerOf (writeNumber sh (length old)) (bytesNeeded sh)
 abbrev pub writtenTo : Sheet → List ℕ → List ℕ
 writtenTo sh old = given (writeNumber sh (length old)) (bytesOf sh) old
 
--- the fields with zeros past I, T and P: what a sheet that was written is read as
+-- entry m, which is x, of an array that has w of them for each slot, one a physical channel; 0 past T and P
+abbrev pub codeTrimmed : ℕ → Sheet → ℕ → ℕ → ℕ
+codeTrimmed w sh m x = upTo (w * sh .slots) m (upTo (phchsOf sh (m / w)) (m % w) x)
+
+-- the fields with zeros past I, T and P, and in downlink for the logarithms: what a sheet that was written is read as
 unfoldable pub trimmed : Sheet → Sheet
 trimmed sh =
     record {
@@ -68,13 +75,13 @@ trimmed sh =
       mode = sh .mode;
       channels = sh .channels;
       slots = sh .slots;
+      uplink = sh .uplink;
       tti = table (λ i. upTo (sh .channels) i (ttiOf sh i)) 0 mostChannels;
       e = table (λ i. upTo (sh .channels) i (encodedOf sh i)) 0 mostChannels;
       rm = table (λ i. upTo (sh .channels) i (ratioOf sh i)) 0 mostChannels;
       phchs = table (λ t. upTo (sh .slots) t (phchsOf sh t)) 0 mostSlots;
-      caps =
-          table (λ m. upTo (mostCodes * sh .slots) m (upTo (phchsOf sh (m / mostCodes)) (m % mostCodes) (getD (sh .caps) m 0))) 0
-          mostCapacities;
+      caps = table (λ m. codeTrimmed mostCodes sh m (getD (sh .caps) m 0)) 0 mostCapacities;
+      logs = table (λ m. codeTrimmed mostPaired sh m (cond (eqb (sh .uplink) 0) 0 (getD (sh .logs) m 0))) 0 mostLogs;
     }
 
 -- n bits, one to a byte, of which the first are those of a list and the others 0

@@ -90,11 +90,14 @@ fn slots_outside(fields: Sheet) -> bool
     false
 }
 
-// Whether a field is outside its range, and neither 2, 3 nor 5 names it.
+// Whether a field is outside its range, and neither 2, 3, 5 nor 13 names it.
 fn field_outside(fields: Sheet) -> bool
     ensures { λ r. ⌜ r ≡ fieldOutside fields ⌝ }
 {
     if 1 < fields.mode {
+        return true;
+    }
+    if 1 < fields.uplink {
         return true;
     }
     let n = count(fields.channels);

@@ -23,26 +23,30 @@ count-requires c κs = search needs
 whole-load-requires : tie.Need-whole-load-requires
 whole-load-requires c κs = codes-few (c .before .before .before .before .read-fields .result) _ (ranged (c .before .before .before .before)) (c .count .ensures .0)
 
+beyond-uplink-requires : tie.Need-beyond-uplink-requires
+beyond-uplink-requires c κs = ranged (c .before .before .before .before .before)
+
 read-number-requires : tie.Need-read-number-requires
-read-number-requires c κs = (c .before .before .before .before .before .read-fields .ensures, ranged (c .before .before .before .before .before), load c)
+read-number-requires c κs = let k = c .before .before .before .before .before .before in (k .read-fields .ensures, ranged k, load (c .before), c .beyond-uplink .ensures)
 
 open-fields-requires : tie.Need-open-fields-requires
-open-fields-requires c κs = (
-  accepted-read (c .before .before .before .before .before .before .before .before .before .args .bytes .now) _ (c .before .read-number .ensures) (c .before .before .before .before .before .before .before .read-fields .result) (c .before .before .before .before .before .before .before .read-fields .ensures)
-      (c .if1 .taken),
-  load-capacity _ (load (c .before .before)),
-)
+open-fields-requires c κs =
+    let k = c .before .before .before .before .before .before .before .before in (
+      accepted-read (c .before .before .before .before .before .before .before .before .before .before .args .bytes .now) _ (c .before .read-number .ensures) (k .read-fields .result) (k .read-fields .ensures) (c .if1 .taken),
+      load-capacity _ (load (c .before .before .before)),
+    )
 
 returns : tie.Need-returns
 returns c =
-    opened-yes (c .before .before .before .before .before .before .before .before .before .before .args .bytes .now) _ (c .before .before .read-number .ensures) (c .before .before .before .before .before .before .before .before .read-fields .result) _ (c .before .before .before .before .before .before .before .before .read-fields .ensures)
+    let k = c .before .before .before .before .before .before .before .before .before in
+    opened-yes (c .before .before .before .before .before .before .before .before .before .before .before .args .bytes .now) _ (c .before .before .read-number .ensures) (k .read-fields .result) _ (k .read-fields .ensures)
     (c .before .if1 .taken) (c .open-fields .ensures)
 
 zeros-requires : tie.Need-zeros-requires
 zeros-requires c κs = search needs
 
 returns-2 : tie.Need-returns-2
-returns-2 c = opened-no (c .before .before .before .before .before .before .before .before .before .before .args .bytes .now) _ (c .before .before .read-number .ensures) _ (c .before .if1 .left) (c .zeros .ensures)
+returns-2 c = opened-no (c .before .before .before .before .before .before .before .before .before .before .before .args .bytes .now) _ (c .before .before .read-number .ensures) _ (c .before .if1 .left) (c .zeros .ensures)
 
 pub open-sheet-spec : {M : Type 1} → statement M
 open-sheet-spec =
@@ -51,6 +55,7 @@ open-sheet-spec =
     read-fields-requires
     count-requires
     whole-load-requires
+    beyond-uplink-requires
     read-number-requires
     open-fields-requires
     returns

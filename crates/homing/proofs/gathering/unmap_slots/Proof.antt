@@ -1,7 +1,7 @@
 use borrow.Author.Needs.{needs}
 use native.Mathlib.Omega.{arith}
 use mathlib.Core.Path.{_∙_}
-use Prim.Native.Nat.{_-_}
+use Prim.Native.Nat.{_-_, _<_}
 use lib.Ieee.{nan}
 use Rattle.frame.specs.Frame.{slotPart}
 use Rattle.frame.specs.Slots.{Slotwise}
@@ -23,8 +23,11 @@ loop-holds c = slots-start _ _ _
 count-requires : tie.Need-count-requires Inv-loop μ-loop
 count-requires c κs = search needs
 
+runs-at-requires : tie.Need-runs-at-requires Inv-loop μ-loop
+runs-at-requires c κs = (c .before .before .before .before .before .before .before .pre .0, omega arith)
+
 span-of-requires : tie.Need-span-of-requires Inv-loop μ-loop
-span-of-requires c κs = span-asks (c .before .before .before .before .loop .inv) (c .before .before .before .before .before .before .before .before .before .pre) (omega arith)
+span-of-requires c κs = span-asks (c .before .before .before .before .before .loop .inv) (c .before .before .before .before .before .before .before .before .before .before .pre) (omega arith)
 
 mul-unmap-slot : tie.Need-mul-unmap-slot Inv-loop μ-loop
 mul-unmap-slot c = omega arith
@@ -65,9 +68,11 @@ part-unmap-slot-end-3 c = omega (arith, c .before .before .before .span-of .ensu
 unmap-slot-requires : tie.Need-unmap-slot-requires Inv-loop μ-loop
 unmap-slot-requires c κs =
     let k = c .before .before .before .before in
-    let l = k .before .before .before .before .before .loop in
-    let s = k .before .before .before .before .before .before .before .before .before .before in
-    slot-fits (s .args .fields) (l .t) (l .inv .begins) (k .span-of .ensures) (s .pre .0) (omega arith) (l .out) (s .args .frame .now) (l .inv .long ∙ s .pre .2) (s .pre .1)
+    let l = k .before .before .before .before .before .before .loop in
+    let s = k .before .before .before .before .before .before .before .before .before .before .before in
+    let b : l .t < s .args .fields .slots = omega (arith, k .before .before .before .before .if1 .taken, k .before .before .before .before .before .count .ensures .0) in
+    slot-fits (s .args .fields) (l .t) (l .inv .begins) (k .span-of .ensures) (s .pre .0) b (l .out) (s .args .frame .now) (l .inv .long ∙ s .pre .2) (s .pre .1)
+    (k .before .before .before .runs-at .ensures)
 
 loop-less : tie.Need-loop-less Inv-loop μ-loop
 loop-less c = omega arith
@@ -76,11 +81,13 @@ loop-again : tie.Need-loop-again Inv-loop μ-loop
 loop-again c =
     let i = c .before .before in
     let k = i .before .before .before .before .before in
-    let l = k .before .before .before .before .before .loop in
-    let s = k .before .before .before .before .before .before .before .before .before .before in
+    let l = k .before .before .before .before .before .before .loop in
+    let s = k .before .before .before .before .before .before .before .before .before .before .before in
+    let b : l .t < s .args .fields .slots = omega (arith, k .before .before .before .before .if1 .taken, k .before .before .before .before .before .count .ensures .0) in
     let p = k .span-of .ensures in
-    slots-turn (l .inv) p (omega arith)
-    (slot-taken nan (s .args .fields) (l .t) (l .inv .begins) p (omega arith) (s .args .frame .now) (s .pre .1) (s .pre .0) (i .unmap-slot .ensures))
+    slots-turn (l .inv) p b
+    (slot-taken nan (s .args .fields) (l .t) (l .inv .begins) p b (s .args .frame .now) (s .pre .1) (s .pre .0)
+    (k .before .before .before .runs-at .ensures) (i .unmap-slot .ensures))
 
 same-length : tie.Need-same-length Inv-loop μ-loop
 same-length c = c .before .before .loop .inv .long
@@ -94,4 +101,4 @@ returns c =
 pub unmap-slots-spec : {M : Type 1} → statement M
 unmap-slots-spec =
     tie.close
-    (tie.spec Inv-loop μ-loop loop-holds count-requires span-of-requires mul-unmap-slot sub-unmap-slot part-unmap-slot-start part-unmap-slot-end mul-unmap-slot-2 sub-unmap-slot-2 part-unmap-slot-start-2 part-unmap-slot-end-2 mul-unmap-slot-3 sub-unmap-slot-3 part-unmap-slot-start-3 part-unmap-slot-end-3 unmap-slot-requires loop-less loop-again same-length returns)
+    (tie.spec Inv-loop μ-loop loop-holds count-requires runs-at-requires span-of-requires mul-unmap-slot sub-unmap-slot part-unmap-slot-start part-unmap-slot-end mul-unmap-slot-2 sub-unmap-slot-2 part-unmap-slot-start-2 part-unmap-slot-end-2 mul-unmap-slot-3 sub-unmap-slot-3 part-unmap-slot-start-3 part-unmap-slot-end-3 unmap-slot-requires loop-less loop-again same-length returns)

@@ -20,6 +20,9 @@ count-requires c κs = search needs
 add-to : tie.Need-add-to
 add-to c = search needs
 
+runs-at-requires : tie.Need-runs-at-requires
+runs-at-requires c κs = search needs
+
 mul-bit-at : tie.Need-mul-bit-at
 mul-bit-at c = search needs
 
@@ -31,24 +34,25 @@ part-bit-at-start c = search needs
 
 part-bit-at-end : tie.Need-part-bit-at-end
 part-bit-at-end c =
-    let s = c .before .before .before in
-    let n = lent-count (s .args .fields) (s .pre .0) (s .args .t) (s .pre .3) (s .pre .1) (s .pre .2) (c .count .ensures .0) in
+    let s = c .before .before .before .before in
+    let n = lent-count (s .args .fields) (s .pre .0) (s .args .t) (s .pre .3) (s .pre .1) (s .pre .2) (c .before .count .ensures .0) in
     omega (arith, n, s .pre .0 .ranged .phch16 (s .args .t) (s .pre .3), s .pre .0 .ranged .few-slots)
 
 bit-at-requires : tie.Need-bit-at-requires
 bit-at-requires c κs =
-    let k = c .before in
+    let k = c .before .before in
     let s = k .before .before .before in
     lent-asks (s .args .fields) (s .pre .0) (s .args .t) (s .pre .3) (s .pre .1) (s .pre .2) (k .count .ensures .0) (s .args .p)
-    (s .args .place) (s .pre .4) (s .pre .5) (s .pre .6)
+    (s .args .place) (s .pre .4) (s .pre .5) (s .pre .6) (c .before .runs-at .ensures)
 
 returns : tie.Need-returns
 returns c =
-    let k = c .before .before in
+    let k = c .before .before .before in
     let s = k .before .before .before in
     let a = s .args in
     let e =
-    lent-bit (a .fields) (s .pre .0) (a .t) (s .pre .3) (s .pre .1) (s .pre .2) (k .count .ensures .0) (a .p) (a .place) (s .pre .4) (c .bit-at .ensures) in
+    lent-bit (a .fields) (s .pre .0) (a .t) (s .pre .3) (s .pre .1) (s .pre .2) (k .count .ensures .0) (a .p) (a .place) (s .pre .4) (c .before .before .runs-at .ensures) (c .bit-at .ensures)
+    in
     (e, omega (arith, e, bit-below (a .fields) (a .t) (a .p) (a .place) (s .pre .4) (s .pre .5) (s .pre .6)))
 
 pub slot-bit-spec : {M : Type 1} → statement M
@@ -60,6 +64,7 @@ slot-bit-spec =
     element-copy-out-count
     count-requires
     add-to
+    runs-at-requires
     mul-bit-at
     sub-bit-at
     part-bit-at-start

@@ -29,47 +29,54 @@ sum-is : (c : tie.Start) → c .args .load .sum ≡ capacityAll (c .args .fields
 sum-is c = load-capacity (c .args .fields) (c .pre .1)
 
 -- each test that was passed leaves the number to the lines after its own
-past-empty : (c : tie.Else1) {x : ℕ} → x ≡ firstOf (linesFrom 6 (loadLines (c .before .args .fields))) → x ≡ firstOf (loadLines (c .before .args .fields))
+past-empty : (c : tie.Else1) {x : ℕ} → x ≡ firstOf (linesFrom 13 (loadLines (c .before .args .fields))) → x ≡ firstOf (loadLines (c .before .args .fields))
 past-empty c = past _ 5 _ (sym (empty-is (c .before)) ∙ c .if1 .left)
 
-past-sizes : (c : tie.Else2) {x : ℕ} → x ≡ firstOf (linesFrom 7 (loadLines (c .before .before .before .args .fields))) → x ≡ firstOf (loadLines (c .before .before .before .args .fields))
-past-sizes c h = past-empty (c .before .before) (past _ 6 _ (under _ _ (c .before .all-equalised .ensures) (c .if2 .left)) h)
+past-uplink : (c : tie.Else2) {x : ℕ} → x ≡ firstOf (linesFrom 6 (loadLines (c .before .before .args .fields))) → x ≡ firstOf (loadLines (c .before .before .args .fields))
+past-uplink c h = past-empty (c .before) (past _ 13 _ (sym (c .before .before .pre .2) ∙ c .if2 .left) h)
 
-past-room : (c : tie.Else3) {x : ℕ} → x ≡ firstOf (linesFrom 8 (loadLines (c .before .before .before .before .before .args .fields))) → x ≡ firstOf (loadLines (c .before .before .before .before .before .args .fields))
-past-room c h = past-sizes (c .before .before) (past _ 7 _ (under _ _ (sum-is (c .before .before .before .before .before)) (c .if3 .left)) h)
+past-sizes : (c : tie.Else3) {x : ℕ} → x ≡ firstOf (linesFrom 7 (loadLines (c .before .before .before .before .args .fields))) → x ≡ firstOf (loadLines (c .before .before .before .before .args .fields))
+past-sizes c h = past-uplink (c .before .before) (past _ 6 _ (under _ _ (c .before .all-equalised .ensures) (c .if3 .left)) h)
 
-past-silent : (c : tie.Else4) → 0 ≡ firstOf (loadLines (c .before .before .before .before .before .before .before .args .fields))
-past-silent c = past-room (c .before .before) (past _ 8 _ (sym (c .before .all-silent .ensures) ∙ c .if4 .left) refl)
+past-room : (c : tie.Else4) {x : ℕ} → x ≡ firstOf (linesFrom 8 (loadLines (c .before .before .before .before .before .before .args .fields))) → x ≡ firstOf (loadLines (c .before .before .before .before .before .before .args .fields))
+past-room c h = past-sizes (c .before .before) (past _ 7 _ (under _ _ (sum-is (c .before .before .before .before .before .before)) (c .if4 .left)) h)
+
+past-silent : (c : tie.Else5) → 0 ≡ firstOf (loadLines (c .before .before .before .before .before .before .before .before .args .fields))
+past-silent c = past-room (c .before .before) (past _ 8 _ (sym (c .before .all-silent .ensures) ∙ c .if5 .left) refl)
 
 returns : tie.Need-returns
 returns c = here _ 5 _ (sym (empty-is (c .before)) ∙ c .if1 .taken)
 
+returns-2 : tie.Need-returns-2
+returns-2 c = past-empty (c .before) (here _ 13 _ (sym (c .before .before .pre .2) ∙ c .if2 .taken))
+
 all-equalised-requires : tie.Need-all-equalised-requires
 all-equalised-requires c κs = search needs
 
-returns-2 : tie.Need-returns-2
-returns-2 c = past-empty (c .before .before) (here _ 6 _ (over _ _ (c .before .all-equalised .ensures) (c .if2 .taken)))
-
 returns-3 : tie.Need-returns-3
-returns-3 c = past-sizes (c .before .before) (here _ 7 _ (over _ _ (sum-is (c .before .before .before .before .before)) (c .if3 .taken)))
+returns-3 c = past-uplink (c .before .before) (here _ 6 _ (over _ _ (c .before .all-equalised .ensures) (c .if3 .taken)))
+
+returns-4 : tie.Need-returns-4
+returns-4 c = past-sizes (c .before .before) (here _ 7 _ (over _ _ (sum-is (c .before .before .before .before .before .before)) (c .if4 .taken)))
 
 all-silent-requires : tie.Need-all-silent-requires
 all-silent-requires c κs = search needs
 
-returns-4 : tie.Need-returns-4
-returns-4 c = past-room (c .before .before) (here _ 8 _ (sym (c .before .all-silent .ensures) ∙ c .if4 .taken))
-
 returns-5 : tie.Need-returns-5
-returns-5 c = past-silent c
+returns-5 c = past-room (c .before .before) (here _ 8 _ (sym (c .before .all-silent .ensures) ∙ c .if5 .taken))
+
+returns-6 : tie.Need-returns-6
+returns-6 c = past-silent c
 
 pub loaded-number-spec : {M : Type 1} → statement M
 loaded-number-spec =
     tie.close
     (tie.spec
     returns
-    all-equalised-requires
     returns-2
+    all-equalised-requires
     returns-3
-    all-silent-requires
     returns-4
-    returns-5)
+    all-silent-requires
+    returns-5
+    returns-6)

@@ -19,21 +19,26 @@ count-requires c κs = search needs
 whole-load-requires : tie.Need-whole-load-requires
 whole-load-requires c κs = codes-few (c .before .before .before .before .read-fields .result) _ (ranged (c .before .before .before .before)) (c .count .ensures .0)
 
+beyond-uplink-requires : tie.Need-beyond-uplink-requires
+beyond-uplink-requires c κs = ranged (c .before .before .before .before .before)
+
 read-number-requires : tie.Need-read-number-requires
-read-number-requires c κs = (
-  c .before .before .before .before .before .read-fields .ensures,
-  ranged (c .before .before .before .before .before),
-  load-is (c .before .before .before .before .before .read-fields .result) _ _ (c .before .count .ensures .0) (c .whole-load .ensures .0),
-)
+read-number-requires c κs =
+    let k = c .before .before .before .before .before .before in (
+      k .read-fields .ensures,
+      ranged k,
+      load-is (k .read-fields .result) _ _ (c .before .before .count .ensures .0) (c .before .whole-load .ensures .0),
+      c .beyond-uplink .ensures,
+    )
 
 returns : tie.Need-returns
-returns c = accepted (c .before .before .before .before .before .before .before .before .before .args .bytes .now) _ _ (c .before .read-number .ensures) (c .if1 .taken) (c .before .before .before .before .before .before .before .read-fields .ensures)
+returns c = accepted (c .before .before .before .before .before .before .before .before .before .before .args .bytes .now) _ _ (c .before .read-number .ensures) (c .if1 .taken) (c .before .before .before .before .before .before .before .before .read-fields .ensures)
 
 none-requires : tie.Need-none-requires
 none-requires c κs = search needs
 
 returns-2 : tie.Need-returns-2
-returns-2 c = refused (c .before .before .before .before .before .before .before .before .before .before .args .bytes .now) _ _ (c .before .before .read-number .ensures) (c .before .if1 .left) (c .none .ensures)
+returns-2 c = refused (c .before .before .before .before .before .before .before .before .before .before .before .args .bytes .now) _ _ (c .before .before .read-number .ensures) (c .before .if1 .left) (c .none .ensures)
 
 pub read-sheet-spec : {M : Type 1} → statement M
 read-sheet-spec =
@@ -42,6 +47,7 @@ read-sheet-spec =
     read-fields-requires
     count-requires
     whole-load-requires
+    beyond-uplink-requires
     read-number-requires
     returns
     none-requires

@@ -13,10 +13,11 @@ use Rattle.sheet.proofs.sizes.bits_needed.Statement.{statement}
 use Rattle.sheet.proofs.sizes.bits_needed.Tie as tie
 
 abbrev Inv-loop : tie.InvT-loop
-Inv-loop n phchs sum₀ t₀ sum t = (t ≤ n) × (sum ≡ sum₀ + sumTo (λ k. slotWidth (getD phchs k 0)) t) × (sum ≤ channelAt mostChannels + slotWidth mostCodes * t)
+Inv-loop n phchs up sum₀ t₀ sum t =
+    (t ≤ n) × (sum ≡ sum₀ + sumTo (λ k. slotWidth up (getD phchs k 0)) t) × (sum ≤ channelAt mostChannels + slotWidth 1 mostCodes * t)
 
 abbrev μ-loop : tie.MeasureT-loop
-μ-loop n phchs sum₀ t₀ sum t = n - t
+μ-loop n phchs up sum₀ t₀ sum t = n - t
 
 count-requires : tie.Need-count-requires Inv-loop μ-loop
 count-requires c κs = search needs
@@ -34,23 +35,17 @@ loop-holds : tie.Need-loop-holds Inv-loop μ-loop
 unfolding sumTo
 loop-holds c = (omega arith, omega arith, omega arith)
 
-mul-count : tie.Need-mul-count Inv-loop μ-loop
-mul-count c = omega arith
+mul-slot-width : tie.Need-mul-slot-width Inv-loop μ-loop
+mul-slot-width c = omega arith
 
-array-read-count : tie.Need-array-read-count Inv-loop μ-loop
-array-read-count c = omega arith
+array-read-slot-width : tie.Need-array-read-slot-width Inv-loop μ-loop
+array-read-slot-width c = omega arith
 
-count-requires-3 : tie.Need-count-requires-3 Inv-loop μ-loop
-count-requires-3 c κs = search needs
-
-mul-sum-2 : tie.Need-mul-sum-2 Inv-loop μ-loop
-mul-sum-2 c = omega arith
+slot-width-requires : tie.Need-slot-width-requires Inv-loop μ-loop
+slot-width-requires c κs = let s = c .before .before .before .before .before in (s .pre .uplink, s .pre .phch16 (c .before .loop .t) (omega arith))
 
 add-sum-2 : tie.Need-add-sum-2 Inv-loop μ-loop
 add-sum-2 c = omega arith
-
-add-sum-3 : tie.Need-add-sum-3 Inv-loop μ-loop
-add-sum-3 c = omega arith
 
 add-t : tie.Need-add-t Inv-loop μ-loop
 add-t c = omega arith
@@ -62,8 +57,7 @@ loop-again : tie.Need-loop-again Inv-loop μ-loop
 loop-again c =
     let f = c .before .before .before .before .before .before .args .fields in
     let l = c .before .before .loop in
-    let s = sum-more (λ k. slotWidth (phchsOf f k)) (l .t) refl (ap slotWidth (c .count3 .ensures .0)) in
-    let b : phchsOf f (l .t) ≤ mostCodes = c .before .before .before .before .before .before .pre .phch16 (l .t) (omega arith) in
+    let s = sum-more (λ k. slotWidth (f .uplink) (phchsOf f k)) (l .t) refl (c .slot-width .ensures .0) in
     (omega arith, omega arith, omega arith)
 
 returns : tie.Need-returns Inv-loop μ-loop
@@ -84,12 +78,10 @@ bits-needed-spec =
     mul-sum
     add-sum
     loop-holds
-    mul-count
-    array-read-count
-    count-requires-3
-    mul-sum-2
+    mul-slot-width
+    array-read-slot-width
+    slot-width-requires
     add-sum-2
-    add-sum-3
     add-t
     loop-less
     loop-again

@@ -33,27 +33,34 @@ slice-aggregate-take-part-5 c = search needs
 take-part-requires-5 : tie.Need-take-part-requires-5
 take-part-requires-5 c κs = search needs
 
-shared-slice-read-t19 : tie.Need-shared-slice-read-t19
-shared-slice-read-t19 c = search needs
+take-logs-requires : tie.Need-take-logs-requires
+take-logs-requires c κs = search needs
 
-shared-slice-read-t21 : tie.Need-shared-slice-read-t21
-shared-slice-read-t21 c = search needs
+shared-slice-read-t20 : tie.Need-shared-slice-read-t20
+shared-slice-read-t20 c = search needs
 
-shared-slice-read-t23 : tie.Need-shared-slice-read-t23
-shared-slice-read-t23 c = search needs
+shared-slice-read-t22 : tie.Need-shared-slice-read-t22
+shared-slice-read-t22 c = search needs
 
-shared-slice-read-t25 : tie.Need-shared-slice-read-t25
-shared-slice-read-t25 c = search needs
+shared-slice-read-t24 : tie.Need-shared-slice-read-t24
+shared-slice-read-t24 c = search needs
+
+shared-slice-read-t26 : tie.Need-shared-slice-read-t26
+shared-slice-read-t26 c = search needs
+
+shared-slice-read-t28 : tie.Need-shared-slice-read-t28
+shared-slice-read-t28 c = search needs
 
 returns : tie.Need-returns
 returns c =
-    let k5 = c .before .before .before .before .before in
+    let k6 = c .before .before .before .before .before in
+    let k5 = k6 .before .before in
     let k4 = k5 .before .before .before in
     let k3 = k4 .before .before .before in
     let k2 = k3 .before .before .before in
     let k1 = k2 .before .before .before in
     sheet-taken (k1 .before .before .before .args .flat .now) (k1 .take-part .ensures) (k2 .take-part2 .ensures) (k3 .take-part3 .ensures)
-    (k4 .take-part4 .ensures) (k5 .take-part5 .ensures)
+    (k4 .take-part4 .ensures) (k5 .take-part5 .ensures) (k6 .take-logs .ensures)
 
 pub take-sheet-spec : {M : Type 1} → statement M
 take-sheet-spec =
@@ -69,8 +76,10 @@ take-sheet-spec =
     take-part-requires-4
     slice-aggregate-take-part-5
     take-part-requires-5
-    shared-slice-read-t19
-    shared-slice-read-t21
-    shared-slice-read-t23
-    shared-slice-read-t25
+    take-logs-requires
+    shared-slice-read-t20
+    shared-slice-read-t22
+    shared-slice-read-t24
+    shared-slice-read-t26
+    shared-slice-read-t28
     returns)

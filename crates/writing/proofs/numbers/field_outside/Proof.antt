@@ -14,79 +14,89 @@ use Rattle.writing.proofs.numbers.field_outside.Tie as tie
 mode : (c : tie.Else1) → ltb 1 (c .before .before .args .fields .mode) ≡ false
 mode c = le-ltb _ _ (c .if1 .left)
 
-counts : (c : tie.Else3) → outside 1 mostChannels (c .before .before .before .before .before .args .fields .channels) ≡ false
+uplink : (c : tie.Else2) → ltb 1 (c .before .before .before .before .args .fields .uplink) ≡ false
+uplink c = le-ltb _ _ (c .if2 .left)
+
+counts : (c : tie.Else4) → outside 1 mostChannels (c .before .before .before .before .before .before .before .args .fields .channels) ≡ false
 counts c =
     let e = c .before .before .count .ensures .0 in
-    ap₂ _||_ (le-ltb _ 1 (subst (λ (x : ℕ). 1 ≤ x) e (c .before .if2 .left)))
-    (le-ltb mostChannels _ (subst (λ (x : ℕ). x ≤ mostChannels) e (c .if3 .left)))
+    ap₂ _||_ (le-ltb _ 1 (subst (λ (x : ℕ). 1 ≤ x) e (c .before .if3 .left)))
+    (le-ltb mostChannels _ (subst (λ (x : ℕ). x ≤ mostChannels) e (c .if4 .left)))
 
-slots : (c : tie.Else4) → ltb mostSlots (c .before .before .before .before .before .before .before .args .fields .slots) ≡ false
-slots c = le-ltb mostSlots _ (subst (λ (x : ℕ). x ≤ mostSlots) (c .before .count2 .ensures .0) (c .if4 .left))
+slots : (c : tie.Else5) → ltb mostSlots (c .before .before .before .before .before .before .before .before .before .args .fields .slots) ≡ false
+slots c = le-ltb mostSlots _ (subst (λ (x : ℕ). x ≤ mostSlots) (c .before .count2 .ensures .0) (c .if5 .left))
 
--- what is behind three tests that are false
-behind : (m o s : Bool) {x y : Bool} → m ≡ false → o ≡ false → s ≡ false → x ≡ y → x ≡ (m || (o || (s || y)))
-behind m o s {x} {y} em eo es e = e ∙ sym (ap₂ _||_ em (ap₂ _||_ eo (ap (λ (b : Bool). b || y) es)))
+-- what is behind four tests that are false
+behind : (m u o s : Bool) {x y : Bool} → m ≡ false → u ≡ false → o ≡ false → s ≡ false → x ≡ y → x ≡ (m || (u || (o || (s || y))))
+behind m u o s {x} {y} em eu eo es e = e ∙ sym (ap₂ _||_ em (ap₂ _||_ eu (ap₂ _||_ eo (ap (λ (b : Bool). b || y) es))))
 
 returns : tie.Need-returns
 returns c = simp (lt-ltb _ _ (c .if1 .taken))
 
+returns-2 : tie.Need-returns-2
+returns-2 c = simp (mode (c .before .before), lt-ltb _ _ (c .if2 .taken))
+
 count-requires : tie.Need-count-requires
 count-requires c κs = search needs
-
-returns-2 : tie.Need-returns-2
-returns-2 c =
-    simp (
-      le-ltb _ _ (c .before .before .if1 .left),
-      lt-ltb _ _ (subst (λ (x : ℕ). x < 1) (c .before .count .ensures .0) (c .if2 .taken)),
-    )
 
 returns-3 : tie.Need-returns-3
 returns-3 c =
     simp (
-      le-ltb _ _ (c .before .before .before .if1 .left),
-      le-ltb _ _ (subst (λ (x : ℕ). 1 ≤ x) (c .before .before .count .ensures .0) (c .before .if2 .left)),
-      lt-ltb _ _ (subst (λ (x : ℕ). mostChannels < x) (c .before .before .count .ensures .0) (c .if3 .taken)),
+      mode (c .before .before .before .before),
+      uplink (c .before .before),
+      lt-ltb _ _ (subst (λ (x : ℕ). x < 1) (c .before .count .ensures .0) (c .if3 .taken)),
     )
-
-count-requires-2 : tie.Need-count-requires-2
-count-requires-2 c κs = search needs
 
 returns-4 : tie.Need-returns-4
 returns-4 c =
     simp (
       mode (c .before .before .before .before .before),
+      uplink (c .before .before .before),
+      le-ltb _ _ (subst (λ (x : ℕ). 1 ≤ x) (c .before .before .count .ensures .0) (c .before .if3 .left)),
+      lt-ltb _ _ (subst (λ (x : ℕ). mostChannels < x) (c .before .before .count .ensures .0) (c .if4 .taken)),
+    )
+
+count-requires-2 : tie.Need-count-requires-2
+count-requires-2 c κs = search needs
+
+returns-5 : tie.Need-returns-5
+returns-5 c =
+    simp (
+      mode (c .before .before .before .before .before .before .before),
+      uplink (c .before .before .before .before .before),
       counts (c .before .before),
-      lt-ltb _ _ (subst (λ (x : ℕ). mostSlots < x) (c .before .count2 .ensures .0) (c .if4 .taken)),
+      lt-ltb _ _ (subst (λ (x : ℕ). mostSlots < x) (c .before .count2 .ensures .0) (c .if5 .taken)),
     )
 
 channels-outside-requires : tie.Need-channels-outside-requires
 channels-outside-requires c κs = search needs
 
-returns-5 : tie.Need-returns-5
-returns-5 c =
-    behind _ _ _ (mode (c .before .before .before .before .before .before .before)) (counts (c .before .before .before .before)) (slots (c .before .before))
-    (sym (ap (λ (b : Bool). b || someSlot (c .before .before .before .before .before .before .before .before .before .args .fields)) (sym (c .before .channels-outside .ensures) ∙ c .if5 .taken)))
+returns-6 : tie.Need-returns-6
+returns-6 c =
+    behind _ _ _ _ (mode (c .before .before .before .before .before .before .before .before .before)) (uplink (c .before .before .before .before .before .before .before)) (counts (c .before .before .before .before)) (slots (c .before .before))
+    (sym (ap (λ (b : Bool). b || someSlot (c .before .before .before .before .before .before .before .before .before .before .before .args .fields)) (sym (c .before .channels-outside .ensures) ∙ c .if6 .taken)))
 
 slots-outside-requires : tie.Need-slots-outside-requires
 slots-outside-requires c κs = search needs
 
-returns-6 : tie.Need-returns-6
-returns-6 c =
-    behind _ _ _ (mode (c .before .before .before .before .before .before .before .before)) (counts (c .before .before .before .before .before)) (slots (c .before .before .before))
+returns-7 : tie.Need-returns-7
+returns-7 c =
+    behind _ _ _ _ (mode (c .before .before .before .before .before .before .before .before .before .before)) (uplink (c .before .before .before .before .before .before .before .before)) (counts (c .before .before .before .before .before)) (slots (c .before .before .before))
     (c .slots-outside .ensures
-    ∙ sym (ap (λ (b : Bool). b || someSlot (c .before .before .before .before .before .before .before .before .before .before .args .fields)) (sym (c .before .before .channels-outside .ensures) ∙ c .before .if5 .left)))
+    ∙ sym (ap (λ (b : Bool). b || someSlot (c .before .before .before .before .before .before .before .before .before .before .before .before .args .fields)) (sym (c .before .before .channels-outside .ensures) ∙ c .before .if6 .left)))
 
 pub field-outside-spec : {M : Type 1} → statement M
 field-outside-spec =
     tie.close
     (tie.spec
     returns
-    count-requires
     returns-2
+    count-requires
     returns-3
-    count-requires-2
     returns-4
-    channels-outside-requires
+    count-requires-2
     returns-5
+    channels-outside-requires
+    returns-6
     slots-outside-requires
-    returns-6)
+    returns-7)

@@ -30,8 +30,14 @@ wide-requires-4 c κs = search needs
 put-field-requires-4 : tie.Need-put-field-requires-4
 put-field-requires-4 c κs = search needs
 
+wide-requires-5 : tie.Need-wide-requires-5
+wide-requires-5 c κs = search needs
+
 put-field-requires-5 : tie.Need-put-field-requires-5
 put-field-requires-5 c κs = search needs
+
+put-field-requires-6 : tie.Need-put-field-requires-6
+put-field-requires-6 c κs = search needs
 
 same-length : tie.Need-same-length
 same-length c = search needs
@@ -39,14 +45,16 @@ same-length c = search needs
 returns : tie.Need-returns
 returns c =
     let spare = c .before .before in
-    let slots = spare .before .before .before .before in
+    let uplink = spare .before .before .before .before in
+    let slots = uplink .before .before .before .before .before in
     let count = slots .before .before .before .before .before in
     let mode = count .before .before .before .before .before in
     let version = mode .before .before .before .before .before in
     let start = version .before .before .before .before in
     head-put (start .args .fields) _ (start .pre .1) (version .before .wide .ensures .0) (mode .before .wide2 .ensures .0)
-    (count .before .wide3 .ensures .0) (slots .before .wide4 .ensures .0) (version .put-field .ensures) (mode .put-field2 .ensures)
-    (count .put-field3 .ensures) (slots .put-field4 .ensures) (spare .put-field5 .ensures)
+    (count .before .wide3 .ensures .0) (slots .before .wide4 .ensures .0) (uplink .before .wide5 .ensures .0) (version .put-field .ensures) (mode .put-field2 .ensures)
+    (count .put-field3 .ensures) (slots .put-field4 .ensures) (uplink .put-field5 .ensures)
+    (spare .put-field6 .ensures)
 
 pub put-head-spec : {M : Type 1} → statement M
 put-head-spec =
@@ -61,6 +69,8 @@ put-head-spec =
     put-field-requires-3
     wide-requires-4
     put-field-requires-4
+    wide-requires-5
     put-field-requires-5
+    put-field-requires-6
     same-length
     returns)

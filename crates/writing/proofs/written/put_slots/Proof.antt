@@ -1,6 +1,6 @@
 use borrow.Author.Needs.{needs}
 use native.Mathlib.Omega.{arith}
-use mathlib.Core.Path.{_≡_, refl, sym, ap, _∙_, subst}
+use mathlib.Core.Path.{_≡_, refl, sym, _∙_, subst}
 use Prim.Native.Nat.{ℕ, _+_, _-_, _*_, _≤_}
 use Rattle.laws.specs.Sums.{sumTo}
 use Rattle.laws.proofs.SumLaws.{sum-more}
@@ -14,7 +14,7 @@ use Rattle.writing.proofs.written.put_slots.Statement.{statement}
 use Rattle.writing.proofs.written.put_slots.Tie as tie
 
 abbrev Inv-loop : tie.InvT-loop
-Inv-loop bs₀ fields n at₀ t₀ bs at t = (t ≤ n) × (at ≡ slotAt fields t) × (at ≤ channelAt mostChannels + slotWidth mostCodes * t) × Holds bs room (slotsBits fields t)
+Inv-loop bs₀ fields n at₀ t₀ bs at t = (t ≤ n) × (at ≡ slotAt fields t) × (at ≤ channelAt mostChannels + slotWidth 1 mostCodes * t) × Holds bs room (slotsBits fields t)
 
 abbrev μ-loop : tie.MeasureT-loop
 μ-loop bs₀ fields n at₀ t₀ bs at t = n - t
@@ -39,25 +39,19 @@ put-slot-requires : tie.Need-put-slot-requires Inv-loop μ-loop
 put-slot-requires c κs =
     let q = c .before .before .before .before .before .before .pre .0 in
     let l = c .before .before .loop in
-    (omega arith, q .phch (l .t) (omega arith), q .phch16 (l .t) (omega arith), l .inv .1, l .inv .2, l .inv .3)
+    (q .uplink, omega arith, q .phch (l .t) (omega arith), q .phch16 (l .t) (omega arith), l .inv .1, l .inv .2, l .inv .3)
 
-mul-count : tie.Need-mul-count Inv-loop μ-loop
-mul-count c = omega arith
+mul-slot-width : tie.Need-mul-slot-width Inv-loop μ-loop
+mul-slot-width c = omega arith
 
-element-copy-out-count : tie.Need-element-copy-out-count Inv-loop μ-loop
-element-copy-out-count c = omega arith
+element-copy-out-slot-width : tie.Need-element-copy-out-slot-width Inv-loop μ-loop
+element-copy-out-slot-width c = omega arith
 
-count-requires-3 : tie.Need-count-requires-3 Inv-loop μ-loop
-count-requires-3 c κs = search needs
-
-mul-at-2 : tie.Need-mul-at-2 Inv-loop μ-loop
-mul-at-2 c = omega arith
+slot-width-requires : tie.Need-slot-width-requires Inv-loop μ-loop
+slot-width-requires c κs = let q = c .before .before .before .before .before .before .before .before .before .before .pre .0 in (q .uplink, q .phch16 (c .before .before .before .before .before .before .loop .t) (omega arith))
 
 add-at-2 : tie.Need-add-at-2 Inv-loop μ-loop
 add-at-2 c = omega arith
-
-add-at-3 : tie.Need-add-at-3 Inv-loop μ-loop
-add-at-3 c = omega arith
 
 add-t : tie.Need-add-t Inv-loop μ-loop
 add-t c = omega arith
@@ -69,8 +63,7 @@ loop-again : tie.Need-loop-again Inv-loop μ-loop
 loop-again c =
     let a = c .before .before .before .before .before .before .before .before .before .before .before .args in
     let l = c .before .before .before .before .before .before .before .loop in
-    let s = sum-more (λ k. slotWidth (phchsOf (a .t2) k)) (l .t) refl (ap slotWidth (c .count3 .ensures .0)) in
-    let b : phchsOf (a .t2) (l .t) ≤ mostCodes = c .before .before .before .before .before .before .before .before .before .before .before .pre .0 .phch16 (l .t) (omega arith) in
+    let s = sum-more (λ k. slotWidth (a .t2 .uplink) (phchsOf (a .t2) k)) (l .t) refl (c .slot-width .ensures .0) in
     (omega arith, omega arith, omega arith, c .before .before .before .before .put-slot .ensures)
 
 same-length : tie.Need-same-length Inv-loop μ-loop
@@ -95,12 +88,10 @@ put-slots-spec =
     add-at
     loop-holds
     put-slot-requires
-    mul-count
-    element-copy-out-count
-    count-requires-3
-    mul-at-2
+    mul-slot-width
+    element-copy-out-slot-width
+    slot-width-requires
     add-at-2
-    add-at-3
     add-t
     loop-less
     loop-again
