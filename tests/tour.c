@@ -46,6 +46,16 @@ static const struct stop stops[] = {
         .sent = "frames 4 to 7 sent; in frame 7 slot 1 PhCH 2 is silent; what came home:",
         .silent = {1, 2, 1, 5},
     },
+    {
+        .title = "two uplink codes, of spreading factors 8 and 2, which take 1 and 4 bits at their turns:",
+        .sheet = {0x10, 0x18, 0x00, 0x0c, 0x00, 0x16, 0x00, 0xe4, 0x01, 0x40},
+        .sheet_len = 10,
+        .contents = "110100111001",
+        .first = 0,
+        .number = 0,
+        .sent = "sent; the first four bits of PhCH 2, places 5 to 2, are silent; what came home:",
+        .silent = {1, 2, 2, 5},
+    },
 };
 
 static uint64_t channels, slots, contents_len, capacity, joined_len; /* of the stop's sheet */

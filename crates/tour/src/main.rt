@@ -1,4 +1,4 @@
-// A tour of the library: of two sheets the listing, the frame of some contents, the name of each place of that frame, and what comes home
+// A tour of the library: of three sheets the listing, the frame of some contents, the name of each place of that frame, and what comes home
 // of the contents where the frame is heard with a few places silent.
 ghost use mathlib.Core.Path.{_≡_};
 ghost use lib.ListN.{length};
@@ -100,6 +100,26 @@ fn three_channels() {
     come_home(sheet, 4, last, &contents, silence, &mut frame, &mut joined);
 }
 
+// An uplink slot of capacities 7 and 5 and spreading factors 8 and 2. PhCH 2 has one bit of room left at its second turn, and gives the turn up.
+fn two_codes() {
+    let sheet: &[u8] = b"\x10\x18\x00\x0c\x00\x16\x00\xe4\x01\x40";
+    let last = FrameNumber(0);
+    let mut contents = [0u8; 12];
+    let mut frame = [0u8; 12];
+    contents_of(b"110100111001", &mut contents);
+    tour(
+        b"\ntwo uplink codes, of spreading factors 8 and 2, which take 1 and 4 bits at their turns:",
+        sheet,
+        last,
+        &contents,
+        &mut frame,
+    );
+    say(b"sent; the first four bits of PhCH 2, places 5 to 2, are silent; what came home:\n");
+    let silence = Silence { from: 8, to: 12 };
+    let mut joined = [0.0f32; 12];
+    come_home(sheet, 0, last, &contents, silence, &mut frame, &mut joined);
+}
+
 fn main() {
     say(
         b"Places 1, 2, .. stand from left to right. c.b is bit b of channel c, copy 0; c.b'k its copy k; * marks a filler.\n",
@@ -109,4 +129,5 @@ fn main() {
     );
     example();
     three_channels();
+    two_codes();
 }
