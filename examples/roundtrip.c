@@ -1,5 +1,5 @@
 /*
- * roundtrip: sends 40 ms of three transport channels and brings them home. Each frame is built, its bits become soft values,
+ * roundtrip: sends 40 ms of three uplink transport channels and brings them home. Each frame is built, its bits become soft values,
  * +1 for 0 and -1 for 1, and the values are taken back; a channel whose TTI is over is finished and compared with what was
  * sent. The exit status is 0 only if every bit that was not punctured came home with the right sign.
  *
@@ -47,7 +47,8 @@ static void *room_for(uint64_t count, size_t size)
     return room;
 }
 
-/* A sheet is made from its fields: here three channels, and two slots with 240 bits in all. */
+/* A sheet is made from its fields: here three channels, and two uplink slots with 240 bits in all. Of the two codes in the first,
+   with spreading factors 8 and 4, the second takes two bits at its turn, as it carries twice as many. */
 static void write_sheet(struct station *s)
 {
     static const struct {
@@ -60,16 +61,20 @@ static void write_sheet(struct station *s)
     fields[UMV_FIELD_MODE] = 0;
     fields[UMV_FIELD_CHANNELS] = CHANNELS;
     fields[UMV_FIELD_SLOTS] = 2;
+    fields[UMV_FIELD_UPLINK] = 1;
     for (int i = 0; i < CHANNELS; i++) {
         fields[UMV_FIELD_TTI + i] = channel[i].tti;
         fields[UMV_FIELD_E + i] = channel[i].e;
         fields[UMV_FIELD_RM + i] = channel[i].rm;
     }
     fields[UMV_FIELD_PHCHS + 0] = 2;
-    fields[UMV_FIELD_CAPACITIES + 16 * 0 + 0] = 64;
-    fields[UMV_FIELD_CAPACITIES + 16 * 0 + 1] = 64;
+    fields[UMV_FIELD_CAPACITIES + 16 * 0 + 0] = 48;
+    fields[UMV_FIELD_LOGARITHMS + 16 * 0 + 0] = 3; /* of 8 */
+    fields[UMV_FIELD_CAPACITIES + 16 * 0 + 1] = 96;
+    fields[UMV_FIELD_LOGARITHMS + 16 * 0 + 1] = 2; /* of 4 */
     fields[UMV_FIELD_PHCHS + 1] = 1;
-    fields[UMV_FIELD_CAPACITIES + 16 * 1 + 0] = 112;
+    fields[UMV_FIELD_CAPACITIES + 16 * 1 + 0] = 96;
+    fields[UMV_FIELD_LOGARITHMS + 16 * 1 + 0] = 2;
 
     must(umv_sheet_length(fields, UMV_FIELDS, &length), "umv_sheet_length");
     must(umv_sheet_write(fields, UMV_FIELDS, s->sheet, length, &at), "umv_sheet_write");

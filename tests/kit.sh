@@ -195,10 +195,10 @@ whereis "$example" 0 1 1 -1 2 'use: whereis SHEETFILE FRAME SLOT PHCH PLACE'
 whereis "$example" 4294967296 1 1 1 2 'use: whereis SHEETFILE FRAME SLOT PHCH PLACE'
 
 # E = 120, 160, 160 and F = 1, 2, 4 give N = 120, 80, 40; with RM = 100, 150, 200 the weights RM x N are 12,000, 12,000 and 8,000.
-# D = 64 + 64 + 112 = 240, so that Z = 240 x (12, 24, 32) / 32 = 90, 180, 240 and V = 90, 90, 60. In four frames channel 1 sends
+# D = 48 + 96 + 96 = 240, so that Z = 240 x (12, 24, 32) / 32 = 90, 180, 240 and V = 90, 90, 60. In four frames channel 1 sends
 # four TTIs, channel 2 two and channel 3 one: 480, 320 and 160 bits. Channel 1 loses 120 - 90 = 30 bits in each frame; what is heard
-# are 4 x V copies. The sheet has 16 + 3 x 24 + (4 + 2 x 12) + (4 + 12) = 132 bits, 17 bytes.
-same 'roundtrip' "4 frames of 240 bits, sheet of 17 bytes
+# are 4 x V copies. The uplink sheet has 16 + 3 x 24 + (4 + 2 x 15) + (4 + 15) = 141 bits, 18 bytes.
+same 'roundtrip' "4 frames of 240 bits, sheet of 18 bytes
 channel 1, 120 bits a frame sent as 90: 480 sent, 360 heard in 360 copies, 120 silent, 120 punctured, 0 wrong
 channel 2, 80 bits a frame sent as 90: 320 sent, 320 heard in 360 copies, 0 silent, 0 punctured, 0 wrong
 channel 3, 40 bits a frame sent as 60: 160 sent, 160 heard in 240 copies, 0 silent, 0 punctured, 0 wrong
