@@ -1,9 +1,9 @@
 /*
  * bench IMPLEMENTATION CALL FRAME MODE MATCHING TIMES [INDEX]: makes one call TIMES times, for bench/run to count.
  *
- * IMPLEMENTATION is library or reference; CALL is build, take, heard, link, name or channel; FRAME (244, 2440, 54000, 54000x15), MODE
- * (0, 1) and MATCHING (puncturing, repetition) choose the sheet. A name is asked for the place with this INDEX in the
- * frame, from 0.
+ * IMPLEMENTATION is library or reference; CALL is build, take, heard, link, name or channel; FRAME (244, 2440, 54000, 54000x15; in
+ * uplink 8296u1:16, 8296u16:1, 2196u1:2, 2928u1:1, with the runs of the two codes behind the u), MODE (0, 1) and MATCHING
+ * (puncturing, repetition) choose the sheet. A name is asked for the place with this INDEX in the frame, from 0.
  */
 #include <stdio.h>
 #include <stdlib.h>
@@ -17,26 +17,40 @@ struct channel_row {
     uint16_t tti, e, rm;
 };
 
-/* Every PhCH of a sheet has the same capacity; the channels end at the first RM of 0. */
+/* A capacity in bits and the logarithm of a spreading factor. */
+struct code {
+    uint16_t capacity, log;
+};
+
+/* The channels end at the first RM of 0. */
 struct row {
     const char *frame;
     const char *matching;
     struct channel_row channels[9];
-    uint16_t phchs[16]; /* of each slot; they end at the first 0 */
-    uint16_t capacity;
+    uint16_t phchs[16];   /* of each slot; they end at the first 0 */
+    uint16_t capacity;    /* of every PhCH in downlink */
+    struct code codes[2]; /* of every slot in uplink */
 };
 
 /* One code of spreading factor 16; ten of them in three slots; a carrier with one code of spreading factor 1 in each of
-   its 15 slots; one with 15 codes in each. */
+   its 15 slots; one with 15 codes in each. Uplink slots of two codes: spreading factors 16 and 1, 1 and 16, 16 and 8, 8 and 8. */
 static const struct row rows[] = {
-    {"244", "puncturing", {{1, 600, 200}}, {1}, 244},
-    {"244", "repetition", {{1, 400, 200}}, {1}, 244},
-    {"2440", "puncturing", {{0, 1200, 180}, {1, 2400, 200}, {2, 2400, 190}}, {4, 3, 3}, 244},
-    {"2440", "repetition", {{0, 800, 180}, {1, 1600, 200}, {2, 1600, 190}}, {4, 3, 3}, 244},
-    {"54000", "puncturing", {{0, 14500, 200}, {0, 14500, 204}, {0, 14500, 196}, {0, 14500, 200}, {1, 1600, 200}}, {1, 1, 1, 1, 1, 1, 1, 1, 1, 1, 1, 1, 1, 1, 1}, 3600},
-    {"54000", "repetition", {{0, 13000, 200}, {0, 13000, 190}, {0, 13000, 210}, {1, 8000, 200}, {2, 8000, 200}}, {1, 1, 1, 1, 1, 1, 1, 1, 1, 1, 1, 1, 1, 1, 1}, 3600},
-    {"54000x15", "puncturing", {{0, 14500, 200}, {0, 14500, 204}, {0, 14500, 196}, {0, 14500, 200}, {1, 1600, 200}}, {15, 15, 15, 15, 15, 15, 15, 15, 15, 15, 15, 15, 15, 15, 15}, 240},
-    {"54000x15", "repetition", {{0, 13000, 200}, {0, 13000, 190}, {0, 13000, 210}, {1, 8000, 200}, {2, 8000, 200}}, {15, 15, 15, 15, 15, 15, 15, 15, 15, 15, 15, 15, 15, 15, 15}, 240},
+    {"244", "puncturing", {{1, 600, 200}}, {1}, 244, {{0}}},
+    {"244", "repetition", {{1, 400, 200}}, {1}, 244, {{0}}},
+    {"2440", "puncturing", {{0, 1200, 180}, {1, 2400, 200}, {2, 2400, 190}}, {4, 3, 3}, 244, {{0}}},
+    {"2440", "repetition", {{0, 800, 180}, {1, 1600, 200}, {2, 1600, 190}}, {4, 3, 3}, 244, {{0}}},
+    {"8296u1:16", "puncturing", {{0, 5400, 200}, {1, 8000, 190}}, {2, 2}, 0, {{244, 4}, {3904, 0}}},
+    {"8296u1:16", "repetition", {{0, 4000, 200}, {1, 6600, 190}}, {2, 2}, 0, {{244, 4}, {3904, 0}}},
+    {"8296u16:1", "puncturing", {{0, 5400, 200}, {1, 8000, 190}}, {2, 2}, 0, {{3904, 0}, {244, 4}}},
+    {"8296u16:1", "repetition", {{0, 4000, 200}, {1, 6600, 190}}, {2, 2}, 0, {{3904, 0}, {244, 4}}},
+    {"2196u1:2", "puncturing", {{0, 1400, 200}, {1, 2200, 190}}, {2, 2, 2}, 0, {{244, 4}, {488, 3}}},
+    {"2196u1:2", "repetition", {{0, 1000, 200}, {1, 1600, 190}}, {2, 2, 2}, 0, {{244, 4}, {488, 3}}},
+    {"2928u1:1", "puncturing", {{0, 1800, 200}, {1, 3000, 190}}, {2, 2, 2}, 0, {{488, 3}, {488, 3}}},
+    {"2928u1:1", "repetition", {{0, 1400, 200}, {1, 2200, 190}}, {2, 2, 2}, 0, {{488, 3}, {488, 3}}},
+    {"54000", "puncturing", {{0, 14500, 200}, {0, 14500, 204}, {0, 14500, 196}, {0, 14500, 200}, {1, 1600, 200}}, {1, 1, 1, 1, 1, 1, 1, 1, 1, 1, 1, 1, 1, 1, 1}, 3600, {{0}}},
+    {"54000", "repetition", {{0, 13000, 200}, {0, 13000, 190}, {0, 13000, 210}, {1, 8000, 200}, {2, 8000, 200}}, {1, 1, 1, 1, 1, 1, 1, 1, 1, 1, 1, 1, 1, 1, 1}, 3600, {{0}}},
+    {"54000x15", "puncturing", {{0, 14500, 200}, {0, 14500, 204}, {0, 14500, 196}, {0, 14500, 200}, {1, 1600, 200}}, {15, 15, 15, 15, 15, 15, 15, 15, 15, 15, 15, 15, 15, 15, 15}, 240, {{0}}},
+    {"54000x15", "repetition", {{0, 13000, 200}, {0, 13000, 190}, {0, 13000, 210}, {1, 8000, 200}, {2, 8000, 200}}, {15, 15, 15, 15, 15, 15, 15, 15, 15, 15, 15, 15, 15, 15, 15}, 240, {{0}}},
 };
 
 static uint8_t sheet[UMV_SHEET_MOST], contents[MOST], frame[MOST], expected[MOST];
@@ -58,9 +72,15 @@ static const struct row *row_of(const char *name, const char *matching)
     return NULL;
 }
 
+static uint16_t capacity_of(const struct row *row, unsigned phch)
+{
+    return row->capacity != 0 ? row->capacity : row->codes[phch].capacity;
+}
+
 static void make_sheet(const struct row *row, uint16_t mode)
 {
     uint16_t fields[UMV_FIELDS] = {[UMV_FIELD_VERSION] = 1, [UMV_FIELD_MODE] = mode};
+    fields[UMV_FIELD_UPLINK] = row->capacity == 0;
     uint64_t length;
     for (unsigned i = 0; row->channels[i].rm != 0; i++) {
         fields[UMV_FIELD_CHANNELS]++;
@@ -72,7 +92,9 @@ static void make_sheet(const struct row *row, uint16_t mode)
         fields[UMV_FIELD_SLOTS]++;
         fields[UMV_FIELD_PHCHS + t] = row->phchs[t];
         for (unsigned p = 0; p < row->phchs[t]; p++)
-            fields[UMV_FIELD_CAPACITIES + 16 * t + p] = row->capacity;
+            fields[UMV_FIELD_CAPACITIES + 16 * t + p] = capacity_of(row, p);
+        for (unsigned p = 0; row->capacity == 0 && p < 2; p++)
+            fields[UMV_FIELD_LOGARITHMS + 16 * t + p] = row->codes[p].log;
     }
     if (ref_sheet_length(fields, UMV_FIELDS, &length) != 0 ||
         ref_sheet_write(fields, UMV_FIELDS, sheet, length, &length) != 0)
@@ -162,16 +184,18 @@ static void heard(const struct implementation *measured, unsigned long times)
             fail("the bit is refused");
 }
 
-/* All PhCHs have the same capacity, so that an index tells its PhCH by division. */
 static void name(const struct implementation *measured, const struct row *row, uint32_t index, unsigned long times)
 {
     uint64_t trch, bit, copy, right_trch, right_bit, right_copy;
-    uint32_t slot = 0, phch = index / row->capacity, place = index % row->capacity + 1;
-    for (; row->phchs[slot] != 0 && phch >= row->phchs[slot]; slot++)
-        phch -= row->phchs[slot];
-    ref_name(sheet, sheet_len, FRAME_NUMBER, slot + 1, phch + 1, place, &right_trch, &right_bit, &right_copy);
+    uint32_t slot = 0, phch = 0;
+    while (index >= capacity_of(row, phch)) {
+        index -= capacity_of(row, phch);
+        phch = (phch + 1) % row->phchs[slot];
+        slot += phch == 0;
+    }
+    ref_name(sheet, sheet_len, FRAME_NUMBER, slot + 1, phch + 1, index + 1, &right_trch, &right_bit, &right_copy);
     for (; times > 0; times--)
-        if (measured->name_of(sheet, sheet_len, FRAME_NUMBER, slot + 1, phch + 1, place, &trch, &bit, &copy) != 0)
+        if (measured->name_of(sheet, sheet_len, FRAME_NUMBER, slot + 1, phch + 1, index + 1, &trch, &bit, &copy) != 0)
             fail("the name is refused");
     if (trch != right_trch || bit != right_bit || copy != right_copy)
         fail("the name differs from the reference's");

@@ -1,8 +1,8 @@
 /*
  * stack: prints, for each public call, how many bytes of stack it needs on the greatest frame: 60,000 places, 15 slots of 16
- * PhCHs, 8 channels of all TTIs, some punctured and some repeated; the most of both modes, accepted and, where a call looks at
- * values, with the last of them bad. A call runs on a stack of its own, filled with one byte; the deepest byte that
- * it changed is looked for. What a function that does nothing needs there is taken off.
+ * PhCHs or of two uplink codes, 8 channels of all TTIs, some punctured and some repeated; the most of both and of both modes,
+ * accepted and, where a call looks at values, with the last of them bad. A call runs on a stack of its own, filled with one
+ * byte; the deepest byte that it changed is looked for. What a function that does nothing needs there is taken off.
  */
 #define _DEFAULT_SOURCE /* MAP_ANONYMOUS */
 #include <stdbool.h>
@@ -17,12 +17,15 @@
 enum {
     MOST = 60000,      /* bits of the frame, and of all channels equalised */
     CHANNELS = 8,
+    SLOTS = 15,
     FRAME_NUMBER = 7,  /* not 0 in any TTI of more than one frame */
     ROOM = 4 << 20     /* bytes of the stack; as many below it may not be touched */
 };
 
 static uint16_t fields[UMV_FIELDS];
 static uint8_t sheet[UMV_SHEET_MOST], contents[MOST], multiplexed[MOST], frame[MOST];
+static size_t sheet_len;
+static uint16_t codes; /* of each slot */
 static float soft[MOST], gathered[MOST], joined[MOST], coded[MOST];
 
 static void fail(const char *what)
@@ -31,35 +34,42 @@ static void fail(const char *what)
     exit(2);
 }
 
-/* 4 x 7,504 and 4 x 7,496 encoded bits, no fillers since 8 divides both: 60,000 equalised. */
-static void make_fields(uint16_t mode)
+/* 4 x 7,504 and 4 x 7,496 encoded bits, no fillers since 8 divides both: 60,000 equalised. In uplink runs of 1 and 16. */
+static void make_fields(uint16_t mode, uint16_t uplink)
 {
     static const uint16_t rm[CHANNELS] = {40, 256, 40, 256, 100, 200, 100, 1};
+    codes = uplink == 1 ? 2 : 16;
     fields[UMV_FIELD_VERSION] = 1;
     fields[UMV_FIELD_MODE] = mode;
     fields[UMV_FIELD_CHANNELS] = CHANNELS;
-    fields[UMV_FIELD_SLOTS] = 15;
+    fields[UMV_FIELD_SLOTS] = SLOTS;
+    fields[UMV_FIELD_UPLINK] = uplink;
     for (unsigned i = 0; i < CHANNELS; i++) {
         fields[UMV_FIELD_TTI + i] = (uint16_t)(i % 4);
         fields[UMV_FIELD_E + i] = i < 4 ? 7504 : 7496;
         fields[UMV_FIELD_RM + i] = rm[i];
     }
-    for (unsigned t = 0; t < 15; t++)
-        fields[UMV_FIELD_PHCHS + t] = 16;
+    for (unsigned t = 0; t < SLOTS; t++) {
+        fields[UMV_FIELD_PHCHS + t] = codes;
+        fields[UMV_FIELD_LOGARITHMS + 16 * t] = 4;
+    }
     for (unsigned u = 0; u < 240; u++)
-        fields[UMV_FIELD_CAPACITIES + u] = 250;
+        fields[UMV_FIELD_CAPACITIES + u] = (uint16_t)(MOST / SLOTS / codes);
 }
 
-static void make_sheet(uint16_t mode)
+static void make_sheet(uint16_t mode, uint16_t uplink)
 {
     uint64_t at, channels, slots, sum, capacity, equalised, f, e, n, v;
     unsigned punctured = 0, repeated = 0;
-    make_fields(mode);
-    if (umv_sheet_write(fields, UMV_FIELDS, sheet, UMV_SHEET_MOST, &at) != UMV_OK ||
-        umv_sizes(sheet, UMV_SHEET_MOST, &channels, &slots, &sum, &capacity, &equalised) != UMV_OK)
+    make_fields(mode, uplink);
+    if (umv_sheet_length(fields, UMV_FIELDS, &at) != UMV_OK)
+        fail("the fields are refused");
+    sheet_len = at;
+    if (umv_sheet_write(fields, UMV_FIELDS, sheet, sheet_len, &at) != UMV_OK ||
+        umv_sizes(sheet, sheet_len, &channels, &slots, &sum, &capacity, &equalised) != UMV_OK)
         fail("the sheet is refused");
     for (uint32_t trch = 1; trch <= channels; trch++) {
-        umv_channel(sheet, UMV_SHEET_MOST, trch, &f, &e, &n, &v);
+        umv_channel(sheet, sheet_len, trch, &f, &e, &n, &v);
         punctured += v < n;
         repeated += v > n;
     }
@@ -85,7 +95,7 @@ static uint32_t answer; /* of the last call */
 static uint64_t a, b, c, d, e;
 static float low, high;
 
-#define SHEET sheet, UMV_SHEET_MOST
+#define SHEET sheet, sheet_len
 
 static void nothing(void) { answer = UMV_OK; }
 static void sheet_read(void) { answer = umv_sheet_read(SHEET, fields, UMV_FIELDS, &a); }
@@ -96,7 +106,7 @@ static void channel(void) { answer = umv_channel(SHEET, CHANNELS, &a, &b, &c, &d
 static void build(void) { answer = umv_build(SHEET, FRAME_NUMBER, contents, MOST, frame, MOST, &a); }
 static void multiplex(void) { answer = umv_multiplex(SHEET, FRAME_NUMBER, contents, MOST, frame, MOST, &a); }
 static void spread(void) { answer = umv_spread(SHEET, multiplexed, MOST, frame, MOST, &a); }
-static void name(void) { answer = umv_name(SHEET, FRAME_NUMBER, 15, 16, 250, &a, &b, &c); }
+static void name(void) { answer = umv_name(SHEET, FRAME_NUMBER, SLOTS, codes, MOST / SLOTS / codes, &a, &b, &c); }
 static void part(void) { answer = umv_part(SHEET, CHANNELS, MOST, &a, &b); }
 static void gather(void) { answer = umv_gather(SHEET, soft, MOST, gathered, MOST, &a); }
 static void take_back(void) { answer = umv_take_back(SHEET, FRAME_NUMBER, soft, MOST, joined, MOST, &a); }
@@ -183,9 +193,9 @@ int main(void)
     make_room();
     for (size_t i = 0; i < sizeof rows / sizeof *rows; i++) {
         size_t most = 0;
-        for (int kind = 0; kind < 4; kind++) {
-            bool bad = kind >= 2;
-            make_sheet((uint16_t)(kind % 2));
+        for (int kind = 0; kind < 8; kind++) {
+            bool bad = kind >= 4;
+            make_sheet((uint16_t)(kind % 2), (uint16_t)(kind / 2 % 2));
             make_values(bad);
             size_t bytes = needed(rows[i].call, bad && rows[i].looks ? UMV_CONTENT : UMV_OK);
             most = bytes > most ? bytes : most;
