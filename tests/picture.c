@@ -132,14 +132,33 @@ static const char *attribute(const char *tag, const char *name)
     return found == NULL ? NULL : found + strlen(wanted_text);
 }
 
+/* The label of a slot: in uplink it says the spreading factor of each code. */
+static void check_head(unsigned t, const char *label)
+{
+    if (t < 1 || t > 15)
+        fail("slot %u is drawn that should not be", t);
+    const uint16_t *logs = &fields[UMV_FIELD_LOGARITHMS + 16 * (t - 1)];
+    char head[64];
+    if (fields[UMV_FIELD_UPLINK] == 0)
+        snprintf(head, sizeof head, "slot %u<", t);
+    else if (fields[UMV_FIELD_PHCHS + t - 1] == 1)
+        snprintf(head, sizeof head, "slot %u, SF %u<", t, 1u << logs[0]);
+    else
+        snprintf(head, sizeof head, "slot %u, SF %u and %u<", t, 1u << logs[0], 1u << logs[1]);
+    if (strncmp(label, head, strlen(head)) != 0)
+        fail("slot %u has another label than %s", t, head);
+}
+
 /* A label: of a slot, of a PhCH, or of the place that a line begins with. */
 static void take_label(struct reader *reader, const char *tag, const char *label)
 {
     const char *class = attribute(tag, "class"), *y = attribute(tag, "y");
     if (class == NULL || y == NULL)
         return;
-    if (*class == 's')
-        sscanf(label, "slot %u<", &reader->slot);
+    if (*class == 's') {
+        sscanf(label, "slot %u", &reader->slot);
+        check_head(reader->slot, label);
+    }
     if (*class == 'p')
         sscanf(label, "PhCH %u<", &reader->phch);
     if (*class == 'n' && reader->starts < MOST_LINES) {
@@ -358,9 +377,10 @@ static void compare_title(void)
     const unsigned mode = fields[UMV_FIELD_MODE];
     char title[160];
     snprintf(title, sizeof title,
-             ">UTRA TDD radio frame, frame number %" PRIu32 ", mode %u (second interleaving %s), D = %" PRIu64
+             ">UTRA TDD %sradio frame, frame number %" PRIu32 ", mode %u (second interleaving %s), D = %" PRIu64
              " places</text>",
-             frame_number, mode, mode == 0 ? "over the frame" : "per slot", capacity);
+             fields[UMV_FIELD_UPLINK] == 1 ? "uplink " : "", frame_number, mode, mode == 0 ? "over the frame" : "per slot",
+             capacity);
     if (strstr(text, title) == NULL)
         fail("no title %s", title);
 }

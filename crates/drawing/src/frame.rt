@@ -1,5 +1,6 @@
 // The frame: slots one below the other, and in each its physical channels.
 ghost use Prim.Native.Nat.{_+_, _≤_, _<_};
+ghost use Rattle.sheet.specs.Counts.{mostSlots};
 use crate::cells::LAYERS;
 use crate::cells::MOST_PLACES;
 use crate::cells::look_at;
@@ -26,6 +27,7 @@ use sheet::Sheet;
 use sheet::counts::CAPACITIES;
 use sheet::counts::CHANNELS;
 use sheet::counts::CODES;
+use sheet::counts::PAIRED;
 
 // Where the cells begin, in px from the left.
 const LEFT: u64 = 100;
@@ -61,17 +63,34 @@ fn say_columns(out: &mut [u8; ROOM], at: usize, scale: Scale, y: u64) -> usize {
     k
 }
 
+// The spreading factors of slot t in uplink.
+fn say_factors(out: &mut [u8; ROOM], at: usize, fields: Sheet, t: usize) -> usize
+    requires { ⌜ t < mostSlots ⌝ }
+{
+    if fields.uplink == 0 {
+        return at;
+    }
+    let logs = fields.logs;
+    let a = pair(out, at, b", SF ", 1u64 << (logs[PAIRED * t] % 8));
+    let phchs = fields.phchs;
+    if phchs[t] < 2 {
+        return a;
+    }
+    pair(out, a, b" and ", 1u64 << (logs[PAIRED * t + 1] % 8))
+}
+
 // The head of a slot, above the first of its capacities.
-fn say_head(out: &mut [u8; ROOM], at: usize, scale: Scale, y: u64, m: usize) -> usize
-    requires { ⌜ y ≤ 350000000 ⌝ }
+fn say_head(out: &mut [u8; ROOM], at: usize, fields: Sheet, scale: Scale, y: u64, m: usize) -> usize
+    requires { ⌜ (m < 240) × (y ≤ 350000000) ⌝ }
 {
     if head(m) == 0 {
         return at;
     }
     let a = open_text(out, at, b"s", 10, y + 20);
     let b = pair(out, a, b"slot ", (m / CODES + 1) as u64);
-    let c = close_text(out, b);
-    say_columns(out, c, scale, y + 22)
+    let c = say_factors(out, b, fields, m / CODES);
+    let d = close_text(out, c);
+    say_columns(out, d, scale, y + 22)
 }
 
 // The number of the place that each line of a PhCH of n places begins with.
@@ -167,7 +186,7 @@ fn say_phch(
     at: usize,
     sheet: &[u8],
     frame: FrameNumber,
-    e: [u16; CHANNELS],
+    fields: Sheet,
     scale: Scale,
     y: u64,
     m: usize,
@@ -179,9 +198,10 @@ fn say_phch(
         return at;
     }
     let top = y + head(m);
-    let a = say_head(out, at, scale, y, m);
+    let a = say_head(out, at, fields, scale, y, m);
     let b = say_labels(out, a, scale, top, (m % CODES + 1) as u64, n);
     let c = open_cells(out, b, scale, top, m);
+    let e = fields.e;
     say_cells(out, c, sheet, frame, e, scale, m, n)
 }
 
@@ -198,13 +218,12 @@ pub fn say_frame(
     requires { ⌜ y ≤ 1400000 ⌝ }
 {
     let caps = fields.caps;
-    let e = fields.e;
     let mut k = at;
     let mut top = y;
     let mut m: usize = 0;
     while m < CAPACITIES {
         let n = caps[m];
-        k = say_phch(out, k, sheet, frame, e, scale, top, m, n);
+        k = say_phch(out, k, sheet, frame, fields, scale, top, m, n);
         top += taken(scale, m, n);
         m += 1;
     }

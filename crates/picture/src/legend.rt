@@ -12,6 +12,7 @@ use drawing::text::close_text;
 use drawing::text::open_text;
 use drawing::text::pair;
 use drawing::text::say;
+use sheet::Sheet;
 use sheet::counts::CHANNELS;
 use ummervia::ChannelAnswer;
 use ummervia::SizesAnswer;
@@ -28,24 +29,24 @@ pub fn say_title(
     out: &mut [u8; ROOM],
     at: usize,
     frame: FrameNumber,
-    mode: u16,
+    fields: Sheet,
     sizes: SizesAnswer,
 ) -> usize {
     let a = open_text(out, at, b"t", 10, 26);
-    let b = pair(
-        out,
-        a,
-        b"UTRA TDD radio frame, frame number ",
-        frame.number(),
-    );
-    let c = if mode == 0 {
-        say(out, b, b", mode 0 (second interleaving over the frame)")
+    let b = if fields.uplink == 0 {
+        say(out, a, b"UTRA TDD radio frame")
     } else {
-        say(out, b, b", mode 1 (second interleaving per slot)")
+        say(out, a, b"UTRA TDD uplink radio frame")
     };
-    let d = pair(out, c, b", D = ", sizes.capacity);
-    let e = say(out, d, b" places");
-    close_text(out, e)
+    let c = pair(out, b, b", frame number ", frame.number());
+    let d = if fields.mode == 0 {
+        say(out, c, b", mode 0 (second interleaving over the frame)")
+    } else {
+        say(out, c, b", mode 1 (second interleaving per slot)")
+    };
+    let e = pair(out, d, b", D = ", sizes.capacity);
+    let f = say(out, e, b" places");
+    close_text(out, f)
 }
 
 // A cell of the size of the legend's text goes between these two, and the text after them.

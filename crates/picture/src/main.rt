@@ -47,7 +47,7 @@ fn draw(out: &mut [u8; ROOM], sheet: &[u8], frame: FrameNumber, fields: Sheet) -
     let caps = fields.caps;
     let a = open_picture(out, bottom(scale, caps, top) + 10);
     let b = say_style(out, a, scale);
-    let c = say_title(out, b, frame, fields.mode, sizes);
+    let c = say_title(out, b, frame, fields, sizes);
     let d = say_marks(out, c);
     let e = say_channels(out, d, sheet);
     say_frame(out, e, sheet, frame, fields, scale, top)

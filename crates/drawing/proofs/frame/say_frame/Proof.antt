@@ -4,10 +4,10 @@ use Rattle.drawing.proofs.frame.say_frame.Statement.{statement}
 use Rattle.drawing.proofs.frame.say_frame.Tie as tie
 
 abbrev Inv-loop : tie.InvT-loop
-Inv-loop out₀ at sheet frame scale y caps e k₀ top₀ m₀ out k top m = (m ≤ 240) × (top ≤ 1400000 + 1400000 * m)
+Inv-loop out₀ at sheet frame fields scale y caps k₀ top₀ m₀ out k top m = (m ≤ 240) × (top ≤ 1400000 + 1400000 * m)
 
 abbrev μ-loop : tie.MeasureT-loop
-μ-loop out₀ at sheet frame scale y caps e k₀ top₀ m₀ out k top m = 240 - m
+μ-loop out₀ at sheet frame fields scale y caps k₀ top₀ m₀ out k top m = 240 - m
 
 loop-holds : tie.Need-loop-holds Inv-loop μ-loop
 loop-holds c = search needs
