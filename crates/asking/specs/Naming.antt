@@ -22,7 +22,7 @@ nameLeft n channel bit copy = naming n (record { channel = channel; bit = bit; c
 abbrev pub noName : Name
 noName = record { channel = 0; bit = 0; copy = 0 }
 
--- 1 to 9, then 10 where the slot, the PhCH or the place does not exist
+-- the sheet's own numbers and 9, then 10 where the slot, the PhCH or the place does not exist
 abbrev pub nameLines : List ℕ → ℕ → ℕ → ℕ → ℕ → List Line
 nameLines s frame slot phch place = frameLines s frame ++ line (not (hasPlace (sheetOf s) onlySubframe slot phch place)) 10 ∷ []
 

@@ -11,7 +11,7 @@ use Rattle.matching.specs.Shares.{cutOf, shareOf, channelPart}
 use Rattle.looking.specs.Looking.{noTrch, notLong}
 use Rattle.asking.specs.declared.part.PartAnswer.{PartAnswer}
 
--- 1 to 8, then 10 where TrCH k does not exist, then 11 where the frame has not D values
+-- the sheet's own numbers, then 10 where TrCH k does not exist, then 11 where the frame has not D values
 abbrev pub partLines : List ℕ → ℕ → ℕ → List Line
 partLines s k n = readLines s ++ line (noTrch (sheetOf s) k) 10 ∷ line (notLong n (capacityAll (sheetOf s))) 11 ∷ []
 

@@ -63,7 +63,7 @@ fn say_columns(out: &mut [u8; ROOM], at: usize, scale: Scale, y: u64) -> usize {
     k
 }
 
-// The spreading factors of slot t in uplink.
+// The spreading factors of slot t in uplink. A logarithm has 3 bits, so that no shift goes too far.
 fn say_factors(out: &mut [u8; ROOM], at: usize, fields: Sheet, t: usize) -> usize
     requires { ⌜ t < mostSlots ⌝ }
 {

@@ -33,8 +33,11 @@ module _ (sh : Sheet) (t : ℕ) where
   unfolding runsOf
   turns-paired h = rw h
 
+  down-single : sh .uplink ≡ 0 → pairedIn sh t ≡ false
+  down-single z = ap (λ (b : Bool). not b && eqb (phchsOf sh t) mostPaired) (eq-eqb (sh .uplink) 0 z)
+
   pub downlink-ones : sh .uplink ≡ 0 → runsOf sh t ≡ ones
-  downlink-ones z = turns-ones (ap (λ (b : Bool). not b && eqb (phchsOf sh t) mostPaired) (eq-eqb (sh .uplink) 0 z))
+  downlink-ones z = turns-ones (down-single z)
 
   -- a run is never empty
   pub runs-some : (p : ℕ) → 0 < runsOf sh t p
@@ -58,7 +61,7 @@ module _ (sh : Sheet) (t : ℕ) where
       }
 
   pub turned-down : sh .uplink ≡ 0 → RunsAt sh t (record { first = 1; other = 1 })
-  turned-down z = turned-ones (ap (λ (b : Bool). not b && eqb (phchsOf sh t) mostPaired) (eq-eqb (sh .uplink) 0 z))
+  turned-down z = turned-ones (down-single z)
 
   pub turned-single : (sh .uplink ≡ 0 → ⊥) → (phchsOf sh t ≡ mostPaired → ⊥) → RunsAt sh t (record { first = 1; other = 1 })
   turned-single z h = turned-ones (ap₂ (λ (a b : Bool). not a && b) (ne-eqb (sh .uplink) 0 z) (ne-eqb (phchsOf sh t) mostPaired h))

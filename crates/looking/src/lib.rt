@@ -15,7 +15,7 @@ use sheet::Sheet;
 
 pub const LAST_FRAME: u32 = 255;
 
-// Numbers 1 to 9.
+// The sheet's own numbers, then 9.
 pub fn open_frame(bytes: &[u8], frame: FrameNumber) -> OpenAnswer
     ensures { λ r. ⌜ Begun (now (bytes .entry)) (frameLines (now (bytes .entry)) (frame .0)) r ⌝ }
 {

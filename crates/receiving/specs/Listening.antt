@@ -23,7 +23,7 @@ use Rattle.receiving.specs.declared.listening.LinkAnswer.{LinkAnswer}
 abbrev pub noBit : Sheet → ℕ → ℕ → Bool
 noBit sh k b = noTrch sh k || (eqb b 0 || ltb (sizeOf sh (k - 1)) b)
 
--- 1 to 9, then 10, then the frame's values, of which D are needed; nothing is written, so that no room is needed
+-- the sheet's own numbers and 9, then 10, then the frame's values, of which D are needed; nothing is written, so that no room is needed
 abbrev pub heardLines : List ℕ → ℕ → List Float → ℕ → ℕ → List Line
 heardLines s number frame k b =
     (frameLines s number ++ line (noBit (sheetOf s) k b) 10 ∷ []) ++ lookLines inRange frame (capacityAll (sheetOf s)) 0 0

@@ -14,7 +14,7 @@ use Rattle.homing.specs.Home.{takenBack, takenCount, finishedOf}
 use Rattle.looking.specs.Outcome.{Outcome, wrote}
 use Rattle.looking.specs.Looking.{frameLines, noTrch, notLong, lookLines, looked}
 
--- gather: 1 to 8, then the frame's values, of which D are needed, and D places
+-- gather: the sheet's own numbers, then the frame's values, of which D are needed, and D places
 abbrev pub gatherLines : List ℕ → List Float → ℕ → List Line
 gatherLines s frame n = readLines s ++ lookLines inRange frame (capacityAll (sheetOf s)) n (capacityAll (sheetOf s))
 
@@ -23,7 +23,7 @@ abbrev pub gatherInto : List ℕ → List Float → List Float → Outcome Float
 gatherInto s frame old =
     looked (firstOf (gatherLines s frame (length old))) (firstOut frame) (capacityAll (sheetOf s)) (gathered nan (sheetOf s) frame) old
 
--- take_back: 1 to 9, then the frame's values, of which D are needed, and a buffer of all T_i
+-- take_back: the sheet's own numbers and 9, then the frame's values, of which D are needed, and a buffer of all T_i
 abbrev pub takeLines : List ℕ → ℕ → List Float → ℕ → List Line
 takeLines s number frame n = frameLines s number ++ lookLines inRange frame (capacityAll (sheetOf s)) n (equalisedAll (sheetOf s))
 
@@ -32,7 +32,7 @@ abbrev pub takeInto : List ℕ → ℕ → List Float → List Float → Outcome
 takeInto s number frame old =
     looked (firstOf (takeLines s number frame (length old))) (firstOut frame) (takenCount (sheetOf s)) (takenBack (sheetOf s) number frame old) old
 
--- finish: 1 to 8, then 10 where TrCH k does not exist, then 11: the buffer has all T_i, and `coded` E of the channel
+-- finish: the sheet's own numbers, then 10 where TrCH k does not exist, then 11: the buffer has all T_i, and `coded` E of the channel
 abbrev pub finishLines : List ℕ → ℕ → ℕ → ℕ → List Line
 finishLines s k m n =
     readLines s

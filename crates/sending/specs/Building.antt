@@ -12,7 +12,7 @@ use Rattle.frame.specs.Bit.{isBit, firstBad}
 use Rattle.looking.specs.Outcome.{Outcome}
 use Rattle.looking.specs.Looking.{frameLines, lookLines, looked}
 
--- build and multiplex: 1 to 9, then the contents, of which the sum of E is needed, and D places in the buffer of n
+-- build and multiplex: the sheet's own numbers and 9, then the contents, of which the sum of E is needed, and D places in the buffer of n
 abbrev pub contentLines : List ℕ → ℕ → List ℕ → ℕ → List Line
 contentLines s frame contents n =
     frameLines s frame ++ lookLines isBit contents (encodedAll (sheetOf s)) n (capacityAll (sheetOf s))
@@ -31,7 +31,7 @@ multiplexInto s frame contents old =
 abbrev pub sendInto : Bool → List ℕ → ℕ → List ℕ → List ℕ → Outcome ℕ
 sendInto whole s frame contents old = cond whole (buildInto s frame contents old) (multiplexInto s frame contents old)
 
--- spread: 1 to 8, then the multiplexed bits, of which D are needed, and D places
+-- spread: the sheet's own numbers, then the multiplexed bits, of which D are needed, and D places
 abbrev pub spreadLines : List ℕ → List ℕ → ℕ → List Line
 spreadLines s bits n = readLines s ++ lookLines isBit bits (capacityAll (sheetOf s)) n (capacityAll (sheetOf s))
 

@@ -12,7 +12,7 @@ use Rattle.sheet.specs.declared.Sheet.{Sheet}
 abbrev pub headIn : List ℕ → ℕ → ℕ
 headIn s k = bitsAt s (widthTo headWidths k) (getD headWidths k 0)
 
--- I, T, and whether they are uplink, 1 or 0
+-- I and T of the bytes, and their uplink bit
 abbrev pub channelsIn : List ℕ → ℕ
 channelsIn s = headIn s 2 + 1
 
