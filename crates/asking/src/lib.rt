@@ -90,7 +90,7 @@ fn channel_of(opened: Opened, i: usize) -> ChannelAnswer
         number: 0,
         f: frames(tti[i]),
         e: wide(e[i]),
-        n: sizes[i],
+        n: sizes[i] as u64,
         v,
     }
 }

@@ -50,7 +50,7 @@ fn room_for(opened: Opened) -> u64
     let mut most = capacity(opened);
     let mut i: usize = 0;
     while i < CHANNELS {
-        most = greater(most, sizes[i]);
+        most = greater(most, sizes[i] as u64);
         i += 1;
     }
     most

@@ -41,7 +41,7 @@ pub fn walk_of(opened: Opened, i: usize, number: FrameNumber) -> Walk
 {
     let fields = opened.fields;
     let sizes = opened.sizes;
-    let n = sizes[i];
+    let n = sizes[i] as u64;
     let d = change(opened, i);
     let e = start_of(n, d, fields.tti[i], number);
     Walk {

@@ -95,7 +95,7 @@ pub fn count_taken(opened: Opened) -> u64
     let mut sum: u64 = 0;
     let mut i: usize = 0;
     while i < n {
-        sum += sizes[i];
+        sum += sizes[i] as u64;
         i += 1;
     }
     sum

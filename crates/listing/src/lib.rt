@@ -72,7 +72,7 @@ fn channel_line(out: &mut [u8], at: usize, opened: Opened, i: usize) -> usize
     let a = put_number(out, at, (i + 1) as u64);
     let b = put_pair(out, a, b" F ", frames(fields.tti[i]));
     let c = put_pair(out, b, b" E ", wide(fields.e[i]));
-    let d = put_pair(out, c, b" N ", sizes[i]);
+    let d = put_pair(out, c, b" N ", sizes[i] as u64);
     let e = put_pair(out, d, b" V ", v);
     put(out, e, b"\n")
 }

@@ -17,7 +17,7 @@ use Rattle.laws.specs.Least.{Passes}
 use Rattle.laws.proofs.LeastLaws.{first-passes, rises}
 use Rattle.laws.proofs.SumLaws.{sum-more, sum-most}
 use Rattle.laws.proofs.TableLaws.{zeros-at, table-set, table-same, filled-all, filled-at, upTo-past, upTo-same}
-use Rattle.sheet.specs.Counts.{mostChannels, mostCapacities, mostEncoded, mostRatio}
+use Rattle.sheet.specs.Counts.{mostChannels, mostEncoded, mostRatio, mostBits}
 use Rattle.sheet.specs.Fields.{encodedOf, ratioOf}
 use Rattle.sheet.specs.Sizes.{framesIn, segmentIn, framesOf, sizeOf, capacityAll}
 use Rattle.sheet.specs.Numbers.{silent}
@@ -129,7 +129,7 @@ pub parts-all : (sh : Sheet) (k : ℕ) → k ≡ sh .channels → filledTo (sumT
 unfolding partsOf
 parts-all sh k e = ap (filledTo (sumTo (weightOf sh))) e
 
--- what stands in the sums: they begin with 0 and end with the sum over all, and no product with one is too large
+-- what stands in the sums: they begin with 0 and end with the sum over all, and no product with one, and no quotient, is too large
 module _ (sh : Sheet) (r : Ranged sh) (parts : List ℕ) (e : parts ≡ partsOf sh) where
   part-at : (i : ℕ) → i ≤ sh .channels → getD parts i 0 ≡ sumTo (weightOf sh) i
   unfolding partsOf
@@ -150,9 +150,11 @@ module _ (sh : Sheet) (r : Ranged sh) (parts : List ℕ) (e : parts ≡ partsOf 
       in
       omega (arith, part-at i h, r .few-channels)
 
-  pub product-most : (i : ℕ) → i ≤ sh .channels → {d : ℕ} → d ≤ 65535 * mostCapacities
-      → d * getD parts i 0 ≤ 65535 * mostCapacities * (mostRatio * mostEncoded * mostChannels)
+  pub product-most : (i : ℕ) → i ≤ sh .channels → {d : ℕ} → d ≤ mostBits → d * getD parts i 0 ≤ mostBits * (mostRatio * mostEncoded * mostChannels)
   product-most i h l = mul-le-mul l (part-most i h)
+
+  pub quotient-most : (i : ℕ) → i ≤ sh .channels → 0 < weightAll sh → {d all : ℕ} → all ≡ weightAll sh → d * getD parts i 0 / all ≤ d
+  quotient-most i h p {d} q = rw (q, part-at i h) (cut-most d (weightOf sh) (sh .channels) p i h)
 
   -- the cuts, from the sums
   pub cuts-all : (k : ℕ) {d all : ℕ} → d ≡ capacityAll sh → all ≡ weightAll sh → k ≡ sh .channels

@@ -2,7 +2,7 @@
 ghost use mathlib.Core.Path.{_≡_};
 ghost use Prim.Native.Nat.{ℕ, _*_, _≤_, _<_};
 ghost use lib.IntN.{pos, _-ℤ_};
-ghost use Rattle.sheet.specs.Counts.{mostCapacities, mostTti, mostEncoded, mostRatio};
+ghost use Rattle.sheet.specs.Counts.{mostTti, mostEncoded, mostRatio, mostBits};
 ghost use Rattle.sheet.specs.Sizes.{framesIn, segmentIn, capacityAll};
 ghost use Rattle.sheet.specs.Range.{Ranged};
 ghost use Rattle.matching.specs.Signed.{signedBy};
@@ -64,18 +64,18 @@ fn parts(fields: Sheet) -> [u64; CHANNELS + 1]
 }
 
 // Z_0 to Z_I, 0 past them, of the fields and their D.
-pub fn cuts(fields: Sheet, d: u64) -> [u64; CHANNELS + 1]
-    requires { ⌜ Ranged fields × (0 < weightAll fields) × (d ≡ capacityAll fields) × (d ≤ 65535 * mostCapacities) ⌝ }
+pub fn cuts(fields: Sheet, d: u64) -> [u16; CHANNELS + 1]
+    requires { ⌜ Ranged fields × (0 < weightAll fields) × (d ≡ capacityAll fields) × (d ≤ mostBits) ⌝ }
     ensures { λ r. ⌜ r ≡ cutsOf fields ⌝ }
 {
     let n = count(fields.channels);
     let parts = parts(fields);
     let all = parts[n];
-    let mut z = [0u64; CHANNELS + 1];
+    let mut z = [0u16; CHANNELS + 1];
     let mut i: usize = 0;
     while i < n {
         i += 1;
-        z[i] = d * parts[i] / all;
+        z[i] = (d * parts[i] / all) as u16;
     }
     z
 }

@@ -50,9 +50,9 @@ fn name_at(opened: Opened, frame: FrameNumber, x: u64) -> PlaceName
     let sizes = opened.sizes;
     let cuts = opened.cuts;
     let tti = ttis[i];
-    let n = sizes[i];
-    let low = cuts[i];
-    let w = cuts[i + 1] - low;
+    let n = sizes[i] as u64;
+    let low = cuts[i] as u64;
+    let w = cuts[i + 1] as u64 - low;
     let d = difference(w, n);
     let e = start_of(n, d, tti, frame);
     let s = sent_at(n, w, e, d.less, d.size, x - low);

@@ -83,7 +83,7 @@ fn read_at<'a>(
     if opened.fields.mode == 0 {
         let cuts = opened.cuts;
         let n = count(opened.fields.channels);
-        return source_at(cuts[n], start + k);
+        return source_at(cuts[n] as u64, start + k);
     }
     start + source_at(slot_size(caps, CODES * t, count(phchs[t])), k)
 }

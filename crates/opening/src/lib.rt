@@ -20,11 +20,11 @@ use sheet::reading::read_number;
 use sheet::sizes::segment;
 use sheet::sizes::whole_load;
 
-// The fields; N of each channel, 0 past I; Z_0 to Z_I, 0 past them.
+// The fields; N of each channel, 0 past I; Z_0 to Z_I, 0 past them. N is at most E and Z at most D, so that 16 bits hold each.
 pub struct Opened {
     pub fields: Sheet,
-    pub sizes: [u64; CHANNELS],
-    pub cuts: [u64; CHANNELS + 1],
+    pub sizes: [u16; CHANNELS],
+    pub cuts: [u16; CHANNELS + 1],
 }
 
 // The number of the sheet's bytes, and the opened sheet where that is 0, zeros where it is not.
@@ -34,17 +34,17 @@ pub struct OpenAnswer {
 }
 
 // N of each channel, 0 past I.
-fn sizes(fields: Sheet) -> [u64; CHANNELS]
+fn sizes(fields: Sheet) -> [u16; CHANNELS]
     requires { ⌜ Ranged fields ⌝ }
     ensures { λ r. ⌜ r ≡ sizesOf fields ⌝ }
 {
     let n = count(fields.channels);
     let e = fields.e;
     let tti = fields.tti;
-    let mut all = [0u64; CHANNELS];
+    let mut all = [0u16; CHANNELS];
     let mut i: usize = 0;
     while i < n {
-        all[i] = segment(e[i], tti[i]);
+        all[i] = segment(e[i], tti[i]) as u16;
         i += 1;
     }
     all
@@ -99,7 +99,7 @@ pub fn capacity(opened: Opened) -> u64
 {
     let fields = opened.fields;
     let z = opened.cuts;
-    z[count(fields.channels)]
+    z[count(fields.channels)] as u64
 }
 
 // V of channel i, counted from 0.
@@ -108,7 +108,7 @@ pub fn share(opened: Opened, i: usize) -> u64
     ensures { λ r. ⌜ r ≡ shareOf (opened .fields) i ⌝ }
 {
     let z = opened.cuts;
-    z[i + 1] - z[i]
+    (z[i + 1] - z[i]) as u64
 }
 
 // d = V - N of channel i, counted from 0.
@@ -117,7 +117,7 @@ pub fn change(opened: Opened, i: usize) -> Change
     ensures { λ r. ⌜ (signedBy (r .less) (r .size) ≡ changeOf (opened .fields) i) × (r .size ≤ mostBits) ⌝ }
 {
     let sizes = opened.sizes;
-    difference(share(opened, i), sizes[i])
+    difference(share(opened, i), sizes[i] as u64)
 }
 
 // Step 7: the channel, counted from 0, in whose part index x of the multiplexed frame lies.
@@ -127,7 +127,7 @@ pub fn channel_at(opened: Opened, x: u64) -> usize
 {
     let z = opened.cuts;
     let mut i: usize = 0;
-    while z[i + 1] <= x {
+    while z[i + 1] as u64 <= x {
         i += 1;
     }
     i

@@ -67,7 +67,7 @@ fn is_missing(opened: Opened, wanted: Wanted) -> bool
             }
             let sizes = opened.sizes;
             let i = trch.index();
-            !bit.is_among(sizes[i])
+            !bit.is_among(sizes[i] as u64)
         }
         Wanted::Channel(trch) => absent(fields, trch),
     }

@@ -1,4 +1,5 @@
-use Rattle.opening.proofs.OpenLaws.{size-is}
+use native.Mathlib.Omega.{arith}
+use Rattle.opening.proofs.OpenLaws.{size-is, sizes-most}
 use Rattle.asking.proofs.AskLaws.{channel-same}
 use borrow.Author.Needs.{needs}
 use Rattle.asking.proofs.channel_of.Statement.{statement}
@@ -33,6 +34,12 @@ mul-t18 c = search needs
 array-read-t21 : tie.Need-array-read-t21
 array-read-t21 c = search needs
 
+cast-t22 : tie.Need-cast-t22
+cast-t22 c =
+    let s = c .before .before .before .before .before .before .before in
+    let a = s .args in
+    omega (arith, size-is (a .opened) (s .pre .0) (a .i) (s .pre .1), sizes-most (a .opened .fields) (s .pre .0 .accepted) (a .i) (s .pre .1))
+
 returns : tie.Need-returns
 returns c =
     let s = c .before .before .before .before .before .before .before in
@@ -52,4 +59,5 @@ channel-of-spec =
     wide-requires
     mul-t18
     array-read-t21
+    cast-t22
     returns)

@@ -1,6 +1,6 @@
 use native.Mathlib.Omega.{arith}
 use Prim.Native.Nat.{_+_, _≤_}
-use Rattle.opening.proofs.OpenLaws.{size-is}
+use Rattle.opening.proofs.OpenLaws.{size-is, sizes-most}
 use Rattle.listing.specs.Listing.{decimalOf}
 use Rattle.listing.specs.Ascii.{ascii}
 use Rattle.listing.proofs.ListLaws.{pasted-long, lists-more, line-made}
@@ -57,6 +57,15 @@ mul-put-pair c = search needs
 
 array-read-put-pair : tie.Need-array-read-put-pair
 array-read-put-pair c = search needs
+
+cast-put-pair : tie.Need-cast-put-pair
+cast-put-pair c =
+    let c2 = c .before .before .before .before in
+    let c1 = c2 .before .before .before .before .before .before .before in
+    let c0 = c1 .before .before .before .before .before .before .before in
+    let s = c0 .before .before .before .before .before .before in
+    let a = s .args in
+    omega (arith, size-is (a .opened) (s .pre .2) (a .i) (s .pre .3), sizes-most (a .opened .fields) (s .pre .2 .accepted) (a .i) (s .pre .3))
 
 put-pair-requires-3 : tie.Need-put-pair-requires-3
 put-pair-requires-3 c κs = search needs
@@ -128,6 +137,7 @@ channel-line-spec =
     slice-aggregate-put-pair-3
     mul-put-pair
     array-read-put-pair
+    cast-put-pair
     put-pair-requires-3
     slice-aggregate-put-pair-4
     put-pair-requires-4

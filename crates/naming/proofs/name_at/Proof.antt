@@ -10,13 +10,23 @@ use Rattle.matching.specs.Signed.{signedBy}
 use Rattle.matching.specs.Shares.{cutOf, shareOf, changeOf}
 use Rattle.matching.specs.declared.shares.Change.{Change}
 use Rattle.opening.specs.declared.Opened.{Opened}
-use Rattle.opening.proofs.OpenLaws.{size-is, sizes-most, shares-most, low-is, cut-rises}
+use Rattle.opening.proofs.OpenLaws.{size-is, sizes-most, shares-most, capacity-most, low-is, cut-rises}
 use Rattle.frame.specs.Frame.{startAt}
-use Rattle.frame.proofs.SendLaws.{cut-share, started}
+use Rattle.frame.proofs.SendLaws.{cut-share, cut-within, started}
 use Rattle.naming.proofs.NamingLaws.{Part, part, asked, stood, name-is}
 use borrow.Author.Needs.{needs}
 use Rattle.naming.proofs.name_at.Statement.{statement}
 use Rattle.naming.proofs.name_at.Tie as tie
+
+-- Z before and after the channel
+module _ (c : tie.After-channel-at) where
+  rises : getD (c .before .args .opened .cuts) (c .channel-at .result) 0 ≤ getD (c .before .args .opened .cuts) (c .channel-at .result + 1) 0
+  rises = cut-rises (c .before .args .opened) (c .before .pre .0) (c .channel-at .result) (c .channel-at .ensures .1)
+
+  within : getD (c .before .args .opened .cuts) (c .channel-at .result + 1) 0 ≤ mostBits
+  within =
+      let s = c .before in
+      omega (arith, cut-within (s .args .opened) (s .pre .0) (c .channel-at .result) (c .channel-at .ensures .1), capacity-most (s .args .opened .fields) (s .pre .0 .accepted))
 
 -- the channel's numbers
 module _ (c : tie.After-difference) where
@@ -80,11 +90,17 @@ mul-n c = search needs
 array-read-n : tie.Need-array-read-n
 array-read-n c = search needs
 
+cast-n : tie.Need-cast-n
+cast-n c = search needs
+
 mul-low : tie.Need-mul-low
 mul-low c = search needs
 
 array-read-low : tie.Need-array-read-low
 array-read-low c = search needs
+
+cast-low : tie.Need-cast-low
+cast-low c = let k = c .before .before .before in omega (arith, rises k, within k)
 
 add-w : tie.Need-add-w
 add-w c = search needs
@@ -95,10 +111,11 @@ mul-w c = search needs
 array-read-w : tie.Need-array-read-w
 array-read-w c = search needs
 
+cast-w : tie.Need-cast-w
+cast-w c = omega (arith, within (c .before .before .before))
+
 sub-w : tie.Need-sub-w
-sub-w c =
-    let k = c .before .before .before in
-    cut-rises (k .before .args .opened) (k .before .pre .0) (k .channel-at .result) (k .channel-at .ensures .1)
+sub-w c = rises (c .before .before .before)
 
 difference-requires : tie.Need-difference-requires
 difference-requires c κs = search needs
@@ -141,11 +158,14 @@ name-at-spec =
     array-read-tti
     mul-n
     array-read-n
+    cast-n
     mul-low
     array-read-low
+    cast-low
     add-w
     mul-w
     array-read-w
+    cast-w
     sub-w
     difference-requires
     start-of-requires

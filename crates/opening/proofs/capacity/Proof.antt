@@ -16,6 +16,9 @@ mul-result c = search needs
 array-read-result : tie.Need-array-read-result
 array-read-result c = search needs
 
+cast-result : tie.Need-cast-result
+cast-result c = search needs
+
 returns : tie.Need-returns
 returns c =
     let s = c .before .before .before in
@@ -24,4 +27,4 @@ returns c =
     (e, omega (arith, e, capacity-most (o .fields) (s .pre .accepted)))
 
 pub capacity-spec : {M : Type 1} → statement M
-capacity-spec = tie.close (tie.spec count-requires mul-result array-read-result returns)
+capacity-spec = tie.close (tie.spec count-requires mul-result array-read-result cast-result returns)

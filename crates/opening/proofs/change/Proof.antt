@@ -17,6 +17,9 @@ mul-difference c = search needs
 array-read-difference : tie.Need-array-read-difference
 array-read-difference c = search needs
 
+cast-difference : tie.Need-cast-difference
+cast-difference c = search needs
+
 difference-requires : tie.Need-difference-requires
 difference-requires c κs = search needs
 
@@ -34,4 +37,4 @@ returns c =
 pub change-spec : {M : Type 1} → statement M
 change-spec =
     tie.close
-    (tie.spec share-requires mul-difference array-read-difference difference-requires returns)
+    (tie.spec share-requires mul-difference array-read-difference cast-difference difference-requires returns)

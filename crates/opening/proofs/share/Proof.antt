@@ -1,6 +1,8 @@
 use native.Mathlib.Omega.{arith}
 use mathlib.Core.Path.{ap₂}
-use Prim.Native.Nat.{_-_}
+use Prim.Native.Nat.{_+_, _-_}
+use lib.ListN.{getD}
+use mir.Facts.{fits-le}
 use Rattle.opening.proofs.OpenLaws.{low-is, high-is, cut-rises}
 use borrow.Author.Needs.{needs}
 use Rattle.opening.proofs.share.Statement.{statement}
@@ -24,6 +26,9 @@ array-read-result-2 c = search needs
 sub-result : tie.Need-sub-result
 sub-result c = omega (arith, cut-rises (c .before .args .opened) (c .before .pre .0) (c .before .args .i) (c .before .pre .1))
 
+cast-result : tie.Need-cast-result
+cast-result c = fits-le {n = getD (c .before .args .opened .cuts) (c .before .args .i + 1) 0} (omega arith) (search needs)
+
 returns : tie.Need-returns
 returns c =
     let a = c .before .args in
@@ -39,4 +44,5 @@ share-spec =
     mul-result-2
     array-read-result-2
     sub-result
+    cast-result
     returns)

@@ -1,6 +1,7 @@
 use native.Mathlib.Omega.{arith}
 use mathlib.Core.Path.{_≡_, refl, _∙_}
 use Prim.Native.Nat.{_-_, _≤_}
+use mir.Facts.{fits-le}
 use Rattle.laws.specs.Tables.{table}
 use Rattle.opening.proofs.OpenLaws.{sizesTo, sizes-more, sizes-all}
 use borrow.Author.Needs.{needs}
@@ -34,6 +35,9 @@ array-read-segment-2 c = omega arith
 
 segment-requires : tie.Need-segment-requires Inv-loop μ-loop
 segment-requires c κs = c .before .before .before .before .before .pre .tti (c .before .loop .i) (omega arith)
+
+cast-all : tie.Need-cast-all Inv-loop μ-loop
+cast-all c = fits-le (c .segment .ensures .1) (search needs)
 
 mul-all : tie.Need-mul-all Inv-loop μ-loop
 mul-all c = omega arith
@@ -69,6 +73,7 @@ sizes-spec =
     mul-segment-2
     array-read-segment-2
     segment-requires
+    cast-all
     mul-all
     array-write-all
     add-i

@@ -11,6 +11,9 @@ mul-start c = search needs
 array-read-start : tie.Need-array-read-start
 array-read-start c = search needs
 
+cast-start : tie.Need-cast-start
+cast-start c = search needs
+
 share-requires : tie.Need-share-requires
 share-requires c κs = search needs
 
@@ -24,4 +27,4 @@ returns c =
     ∙ part-same (s .args .opened .fields) (s .args .i) (low-is (s .args .opened) (s .pre .0) (s .args .i) (s .pre .1)) (c .before .share .ensures)
 
 pub part-of-spec : {M : Type 1} → statement M
-part-of-spec = tie.close (tie.spec mul-start array-read-start share-requires made-requires returns)
+part-of-spec = tie.close (tie.spec mul-start array-read-start cast-start share-requires made-requires returns)

@@ -27,6 +27,9 @@ mul-greater c = omega arith
 array-read-greater : tie.Need-array-read-greater Inv-loop μ-loop
 array-read-greater c = omega arith
 
+cast-greater : tie.Need-cast-greater Inv-loop μ-loop
+cast-greater c = search needs
+
 greater-requires : tie.Need-greater-requires Inv-loop μ-loop
 greater-requires c κs = search needs
 
@@ -59,6 +62,7 @@ room-for-spec =
     loop-holds
     mul-greater
     array-read-greater
+    cast-greater
     greater-requires
     add-i
     loop-less

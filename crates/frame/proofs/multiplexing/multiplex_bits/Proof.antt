@@ -88,6 +88,9 @@ mul-a c = omega arith
 array-read-a : tie.Need-array-read-a Inv-loop μ-loop
 array-read-a c = omega arith
 
+cast-a : tie.Need-cast-a Inv-loop μ-loop
+cast-a c = omega (arith, up c, last c)
+
 add-z : tie.Need-add-z Inv-loop μ-loop
 add-z c = omega arith
 
@@ -97,11 +100,17 @@ mul-z c = omega arith
 array-read-z : tie.Need-array-read-z Inv-loop μ-loop
 array-read-z c = omega arith
 
+cast-z : tie.Need-cast-z Inv-loop μ-loop
+cast-z c = omega (arith, last c)
+
 mul-size : tie.Need-mul-size Inv-loop μ-loop
 mul-size c = omega arith
 
 array-read-size : tie.Need-array-read-size Inv-loop μ-loop
 array-read-size c = omega arith
+
+cast-size : tie.Need-cast-size Inv-loop μ-loop
+cast-size c = omega (arith, fits c)
 
 sub-send : tie.Need-sub-send Inv-loop μ-loop
 sub-send c = omega arith
@@ -195,11 +204,14 @@ multiplex-bits-spec =
     add-to
     mul-a
     array-read-a
+    cast-a
     add-z
     mul-z
     array-read-z
+    cast-z
     mul-size
     array-read-size
+    cast-size
     sub-send
     part-send-start
     part-send-end

@@ -12,6 +12,9 @@ mul-n c = search needs
 array-read-n : tie.Need-array-read-n
 array-read-n c = search needs
 
+cast-n : tie.Need-cast-n
+cast-n c = search needs
+
 change-requires : tie.Need-change-requires
 change-requires c κs = search needs
 
@@ -49,6 +52,7 @@ walk-of-spec =
     (tie.spec
     mul-n
     array-read-n
+    cast-n
     change-requires
     mul-start-of
     element-copy-out-start-of

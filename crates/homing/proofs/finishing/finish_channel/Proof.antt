@@ -32,6 +32,9 @@ mul-n c = search needs
 array-read-n : tie.Need-array-read-n
 array-read-n c = search needs
 
+cast-n : tie.Need-cast-n
+cast-n c = search needs
+
 mul-count : tie.Need-mul-count
 mul-count c = search needs
 
@@ -99,6 +102,7 @@ finish-channel-spec =
     (tie.spec
     mul-n
     array-read-n
+    cast-n
     mul-count
     element-copy-out-count
     count-requires

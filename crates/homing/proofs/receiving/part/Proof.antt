@@ -24,6 +24,9 @@ mul-a c = search needs
 array-read-a : tie.Need-array-read-a
 array-read-a c = search needs
 
+cast-a : tie.Need-cast-a
+cast-a c = search needs
+
 add-z : tie.Need-add-z
 add-z c = search needs
 
@@ -32,6 +35,9 @@ mul-z c = search needs
 
 array-read-z : tie.Need-array-read-z
 array-read-z c = search needs
+
+cast-z : tie.Need-cast-z
+cast-z c = search needs
 
 mul-result : tie.Need-mul-result
 mul-result c = omega (arith, up (c .before), last (c .before))
@@ -58,9 +64,11 @@ part-spec =
     (tie.spec
     mul-a
     array-read-a
+    cast-a
     add-z
     mul-z
     array-read-z
+    cast-z
     mul-result
     sub-result
     part-result-start

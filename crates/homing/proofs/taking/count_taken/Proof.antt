@@ -39,6 +39,9 @@ mul-sum c = omega arith
 array-read-sum : tie.Need-array-read-sum Inv-loop μ-loop
 array-read-sum c = omega (arith, few c .0, c .before .before .before .before .before .pre .accepted .ranged .few-channels)
 
+cast-sum : tie.Need-cast-sum Inv-loop μ-loop
+cast-sum c = search needs
+
 add-sum : tie.Need-add-sum Inv-loop μ-loop
 add-sum c = omega (arith, few c .1, c .before .before .before .before .before .pre .accepted .ranged .few-channels)
 
@@ -73,6 +76,7 @@ count-taken-spec =
     loop-holds
     mul-sum
     array-read-sum
+    cast-sum
     add-sum
     add-i
     loop-less

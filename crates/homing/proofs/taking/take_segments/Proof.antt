@@ -76,6 +76,9 @@ mul-size c = omega arith
 array-read-size : tie.Need-array-read-size Inv-loop μ-loop
 array-read-size c = omega arith
 
+cast-size : tie.Need-cast-size Inv-loop μ-loop
+cast-size c = search needs
+
 mul-frames : tie.Need-mul-frames Inv-loop μ-loop
 mul-frames c = omega arith
 
@@ -110,6 +113,9 @@ mul-a c = omega arith
 array-read-a : tie.Need-array-read-a Inv-loop μ-loop
 array-read-a c = omega arith
 
+cast-a : tie.Need-cast-a Inv-loop μ-loop
+cast-a c = omega (arith, up c, last c)
+
 add-z : tie.Need-add-z Inv-loop μ-loop
 add-z c = omega arith
 
@@ -118,6 +124,9 @@ mul-z c = omega arith
 
 array-read-z : tie.Need-array-read-z Inv-loop μ-loop
 array-read-z c = omega arith
+
+cast-z : tie.Need-cast-z Inv-loop μ-loop
+cast-z c = omega (arith, last c)
 
 mul-take-channel : tie.Need-mul-take-channel Inv-loop μ-loop
 mul-take-channel c = omega (arith, up c, last c)
@@ -207,6 +216,7 @@ take-segments-spec =
     loop-holds
     mul-size
     array-read-size
+    cast-size
     mul-frames
     element-copy-out-frames
     frames-requires
@@ -215,9 +225,11 @@ take-segments-spec =
     add-to
     mul-a
     array-read-a
+    cast-a
     add-z
     mul-z
     array-read-z
+    cast-z
     mul-take-channel
     sub-take-channel
     part-take-channel-start

@@ -3,7 +3,7 @@ use mathlib.Core.Path.{_≡_, refl, _∙_}
 use Prim.Native.Nat.{_+_, _*_, _-_, _/_, _≤_}
 use lib.ListN.{getD}
 use Rattle.matching.specs.Shares.{weightAll}
-use Rattle.matching.proofs.ShareLaws.{filledTo, fill-first, fill-more, part-none, part-all, product-most, cuts-all}
+use Rattle.matching.proofs.ShareLaws.{filledTo, fill-first, fill-more, part-none, part-all, product-most, quotient-most, cuts-all}
 use borrow.Author.Needs.{needs}
 use Rattle.matching.proofs.shares.cuts.Statement.{statement}
 use Rattle.matching.proofs.shares.cuts.Tie as tie
@@ -53,6 +53,12 @@ mul-z-2 c =
 div-z : tie.Need-div-z Inv-loop μ-loop
 div-z c = let p = c .before .before in omega (arith, p .before .before .pre .1, all-is p)
 
+cast-z : tie.Need-cast-z Inv-loop μ-loop
+cast-z c =
+    let p = c .before .before in
+    let s = p .before .before in
+    omega (arith, quotient-most (s .args .fields) (s .pre .0) (p .parts .result) (p .parts .ensures) (c .before .loop .i + 1) (omega arith) (s .pre .1) {d = s .args .d} (all-is p))
+
 mul-z-3 : tie.Need-mul-z-3 Inv-loop μ-loop
 mul-z-3 c = omega arith
 
@@ -88,6 +94,7 @@ cuts-spec =
     array-read-z
     mul-z-2
     div-z
+    cast-z
     mul-z-3
     array-write-z
     loop-less

@@ -69,6 +69,11 @@ mul-source-at c = search needs
 array-read-source-at : tie.Need-array-read-source-at
 array-read-source-at c = search needs
 
+cast-source-at : tie.Need-cast-source-at
+cast-source-at c =
+    let s = c .before .before .before .before .before in
+    omega (arith, all (s .args .opened) (s .pre .0) (c .count .ensures .0), capacity-most (s .args .opened .fields) (s .pre .0 .accepted))
+
 add-source-at : tie.Need-add-source-at
 add-source-at c = let i = c .before .before .before .before in omega (arith, begun i, within (i .before))
 
@@ -130,6 +135,7 @@ read-at-spec =
     count-requires
     mul-source-at
     array-read-source-at
+    cast-source-at
     add-source-at
     source-at-requires
     returns

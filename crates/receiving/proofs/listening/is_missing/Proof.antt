@@ -47,6 +47,9 @@ array-read-is-among c =
     let k = c .before .before in
     omega (arith, trch-there (start k .args .opened .fields) (trch k) (there k), c .index .ensures, start k .pre .accepted .ranged .few-channels)
 
+cast-is-among : tie.Need-cast-is-among
+cast-is-among c = search needs
+
 is-among-requires : tie.Need-is-among-requires
 is-among-requires c κs = search needs
 
@@ -80,6 +83,7 @@ is-missing-spec =
     index-requires
     mul-is-among
     array-read-is-among
+    cast-is-among
     is-among-requires
     enum-known-wanted-2
     absent-requires-2
