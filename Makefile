@@ -8,11 +8,14 @@ SHELL := /bin/bash
 .NOTPARALLEL: # rt works with all processors by itself, and rt ci removes target/
 
 # Outside vectors, bigger than the repository's own, of the calls and of the lister; where a file is not there it is passed over.
-VECTORS ?= ../shared/vectors/after-C-11.txt
-LISTINGS ?= ../shared/vectors/lister-after-C-11.txt
+VECTORS ?= ../shared/vectors/after-C-16.txt
+LISTINGS ?= ../shared/vectors/lister-after-C-16.txt
+
+# Outside vectors of releases 1 and 2: what they accept stays as it was, but for the rows of fields, which have grown.
+STORED ?= ../shared/vectors/base.txt ../shared/vectors/after-C-11.txt
 
 # The repository's own vectors that the library runs; the reference runs all.
-CASES := tests/cases/sheet.txt tests/cases/frame.txt tests/cases/home.txt tests/cases/uplink.txt
+CASES := tests/cases/sheet.txt tests/cases/frame.txt tests/cases/home.txt tests/cases/uplink.txt tests/cases/sixteen.txt
 
 # rt compiles for x86-64 on every machine: elsewhere such programs are linked by a cross compiler and run by qemu.
 ifeq ($(shell uname -m),x86_64)
@@ -56,7 +59,10 @@ ctest: target/c/calls target/c/values target/c/vectors target/c/loop target/c/ra
 	@run() { if [ -f "$$2" ]; then echo "$(RUN) target/c/vectors $$*"; $(RUN) target/c/vectors "$$@"; \
 	else echo "vectors: $$2 is not there: skipped"; fi; }; \
 	for file in tests/cases/*.txt '$(VECTORS)'; do run reference "$$file"; done; \
-	for file in $(CASES) '$(VECTORS)'; do run library "$$file"; done
+	for file in $(CASES) '$(VECTORS)'; do run library "$$file"; done; \
+	for file in $(STORED); do if [ -f "$$file" ]; then \
+	grep -Ev '^(read|length|write) ' "$$file" | grep ' => 0 ' > target/c/stored.txt; echo "accepted in $$file:"; run library target/c/stored.txt; \
+	else echo "vectors: $$file is not there: skipped"; fi; done
 	$(RUN) target/c/loop
 	$(RUN) target/c/random
 	$(RUN) target/c/home

@@ -1,8 +1,9 @@
 /*
  * bench IMPLEMENTATION CALL FRAME MODE MATCHING TIMES [INDEX]: makes one call TIMES times, for bench/run to count.
  *
- * IMPLEMENTATION is library or reference; CALL is build, take, heard, link, name or channel; FRAME (244, 2440, 54000, 54000x15; in
- * uplink 8296u1:16, 8296u16:1, 2196u1:2, 2928u1:1, with the runs of the two codes behind the u), MODE (0, 1) and MATCHING
+ * IMPLEMENTATION is library or reference; CALL is build, take, heard, link, name or channel; FRAME (244, 2440, 54000, 54000x15; 2440c8
+ * and 2440c16, with the number of channels behind the c; in uplink 8296u1:16, 8296u16:1, 2196u1:2, 2928u1:1, with the runs of the two
+ * codes behind the u), MODE (0, 1) and MATCHING
  * (puncturing, repetition) choose the sheet. A name is asked for the place with this INDEX in the frame, from 0.
  */
 #include <stdio.h>
@@ -26,11 +27,14 @@ struct code {
 struct row {
     const char *frame;
     const char *matching;
-    struct channel_row channels[9];
+    struct channel_row channels[UMV_CHANNELS_MOST + 1];
     uint16_t phchs[16];   /* of each slot; they end at the first 0 */
     uint16_t capacity;    /* of every PhCH in downlink */
     struct code codes[2]; /* of every slot in uplink */
 };
+
+/* Channels of each TTI, of n bits a frame. */
+#define EACH_TTI(n) {0, (n), 200}, {1, 2 * (n), 190}, {2, 4 * (n), 210}, {3, 8 * (n), 195}
 
 /* One code of spreading factor 16; ten of them in three slots; a carrier with one code of spreading factor 1 in each of
    its 15 slots; one with 15 codes in each. Uplink slots of two codes: spreading factors 16 and 1, 1 and 16, 16 and 8, 8 and 8. */
@@ -39,6 +43,10 @@ static const struct row rows[] = {
     {"244", "repetition", {{1, 400, 200}}, {1}, 244, {{0}}},
     {"2440", "puncturing", {{0, 1200, 180}, {1, 2400, 200}, {2, 2400, 190}}, {4, 3, 3}, 244, {{0}}},
     {"2440", "repetition", {{0, 800, 180}, {1, 1600, 200}, {2, 1600, 190}}, {4, 3, 3}, 244, {{0}}},
+    {"2440c8", "puncturing", {EACH_TTI(376), EACH_TTI(376)}, {4, 3, 3}, 244, {{0}}},
+    {"2440c8", "repetition", {EACH_TTI(250), EACH_TTI(250)}, {4, 3, 3}, 244, {{0}}},
+    {"2440c16", "puncturing", {EACH_TTI(188), EACH_TTI(188), EACH_TTI(188), EACH_TTI(188)}, {4, 3, 3}, 244, {{0}}},
+    {"2440c16", "repetition", {EACH_TTI(125), EACH_TTI(125), EACH_TTI(125), EACH_TTI(125)}, {4, 3, 3}, 244, {{0}}},
     {"8296u1:16", "puncturing", {{0, 5400, 200}, {1, 8000, 190}}, {2, 2}, 0, {{244, 4}, {3904, 0}}},
     {"8296u1:16", "repetition", {{0, 4000, 200}, {1, 6600, 190}}, {2, 2}, 0, {{244, 4}, {3904, 0}}},
     {"8296u16:1", "puncturing", {{0, 5400, 200}, {1, 8000, 190}}, {2, 2}, 0, {{3904, 0}, {244, 4}}},

@@ -1,6 +1,6 @@
 /*
  * stack: prints, for each public call, how many bytes of stack it needs on the greatest frame: 60,000 places, 15 slots of 16
- * PhCHs or of two uplink codes, 8 channels of all TTIs, some punctured and some repeated; the most of both and of both modes,
+ * PhCHs or of two uplink codes, 16 channels of all TTIs, some punctured and some repeated; the most of both and of both modes,
  * accepted and, where a call looks at values, with the last of them bad. A call runs on a stack of its own, filled with one
  * byte; the deepest byte that it changed is looked for. What a function that does nothing needs there is taken off.
  */
@@ -16,7 +16,7 @@
 
 enum {
     MOST = 60000,      /* bits of the frame, and of all channels equalised */
-    CHANNELS = 8,
+    CHANNELS = UMV_CHANNELS_MOST,
     SLOTS = 15,
     FRAME_NUMBER = 7,  /* not 0 in any TTI of more than one frame */
     ROOM = 4 << 20     /* bytes of the stack; as many below it may not be touched */
@@ -34,10 +34,10 @@ static void fail(const char *what)
     exit(2);
 }
 
-/* 4 x 7,504 and 4 x 7,496 encoded bits, no fillers since 8 divides both: 60,000 equalised. In uplink runs of 1 and 16. */
+/* 12 x 3,752 and 4 x 3,744 encoded bits, no fillers since 8 divides both: 60,000 equalised. In uplink runs of 1 and 16. */
 static void make_fields(uint16_t mode, uint16_t uplink)
 {
-    static const uint16_t rm[CHANNELS] = {40, 256, 40, 256, 100, 200, 100, 1};
+    static const uint16_t rm[] = {40, 256, 40, 256, 100, 200, 100, 1};
     codes = uplink == 1 ? 2 : 16;
     fields[UMV_FIELD_VERSION] = 1;
     fields[UMV_FIELD_MODE] = mode;
@@ -46,8 +46,8 @@ static void make_fields(uint16_t mode, uint16_t uplink)
     fields[UMV_FIELD_UPLINK] = uplink;
     for (unsigned i = 0; i < CHANNELS; i++) {
         fields[UMV_FIELD_TTI + i] = (uint16_t)(i % 4);
-        fields[UMV_FIELD_E + i] = i < 4 ? 7504 : 7496;
-        fields[UMV_FIELD_RM + i] = rm[i];
+        fields[UMV_FIELD_E + i] = i < 12 ? 3752 : 3744;
+        fields[UMV_FIELD_RM + i] = rm[i % 8];
     }
     for (unsigned t = 0; t < SLOTS; t++) {
         fields[UMV_FIELD_PHCHS + t] = codes;
@@ -110,8 +110,8 @@ static void name(void) { answer = umv_name(SHEET, FRAME_NUMBER, SLOTS, codes, MO
 static void part(void) { answer = umv_part(SHEET, CHANNELS, MOST, &a, &b); }
 static void gather(void) { answer = umv_gather(SHEET, soft, MOST, gathered, MOST, &a); }
 static void take_back(void) { answer = umv_take_back(SHEET, FRAME_NUMBER, soft, MOST, joined, MOST, &a); }
-static void finish(void) { answer = umv_finish(SHEET, CHANNELS, joined, MOST, coded, 7496, &a); }
-static void heard(void) { answer = umv_heard(SHEET, FRAME_NUMBER, soft, MOST, CHANNELS, 937, &a, &low, &b); }
+static void finish(void) { answer = umv_finish(SHEET, CHANNELS, joined, MOST, coded, 3744, &a); }
+static void heard(void) { answer = umv_heard(SHEET, FRAME_NUMBER, soft, MOST, CHANNELS, 468, &a, &low, &b); }
 static void link(void) { answer = umv_link(SHEET, FRAME_NUMBER, soft, MOST, CHANNELS, &a, &low, &high, &b); }
 
 static const struct row {

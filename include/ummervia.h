@@ -21,16 +21,24 @@
  * - The pointers to single values at the end of a parameter list are answers: they must not be null and are always
  *   written, on a refusal with zeros; only UMV_CONTENT (12) gives in `at` the index of the first bad value, from 0.
  *
- * What a caller of release 1 has to change for release 2, which knows uplink sheets; a downlink sheet keeps its bytes and its
- * frames:
+ * What a caller of release 2 has to change for release 3, which knows up to 16 transport channels, where there were 8; a sheet
+ * of 8 or fewer keeps its bytes, its frames and its names:
  *
- * - The fields of a sheet are 524 numbers, where they were 283; an array of 283 is refused with 11.
+ * - The fields of a sheet are 548 numbers, where they were 524; an array of 524 is refused with 11.
+ * - TTI, E and RM have 16 places each, so that every place from UMV_FIELD_E on is further. Who used the names compiles again.
+ * - The third of the four spare bits is the top bit of I - 1: where it is set, a sheet that drew 4 may be accepted. An older
+ *   release answers a sheet of more than 8 channels with 4.
+ * - What is kept for each channel of a sheet from outside needs room for UMV_CHANNELS_MOST, which is new.
+ * - A sheet has up to UMV_SHEET_MOST bytes, 418, where it had 394; a buffer for one that comes from a file holds
+ *   UMV_SHEET_FORM_MOST + 1, 509, where it held 485; in a shorter one a long sheet that is refused with 5 or 13 is cut off, and
+ *   then refused with 4.
+ *
+ * A caller of release 1, which had 283 fields, finds besides:
+ *
  * - UMV_FIELD_UPLINK has the fifth place, so that every place from UMV_FIELD_TTI on is one further, and the logarithms stand at
  *   the end, from UMV_FIELD_LOGARITHMS on. Who used the names compiles again, with 0 in the uplink field for a sheet as it was.
  * - UMV_UPLINK_CODES (13) is new. It goes before 6, 7 and 8, and every call that takes a sheet or its fields can give it.
  * - The first of the four spare bits is the uplink bit: where it is set, a sheet that drew 4 may be accepted.
- * - A buffer for a sheet that comes from a file holds UMV_SHEET_FORM_MOST + 1 bytes, 485, where it held 395; in a shorter one a
- *   long sheet that is refused with 5 or 13 is cut off, and then refused with 4.
  */
 #ifndef UMMERVIA_H
 #define UMMERVIA_H
@@ -42,7 +50,7 @@
 extern "C" {
 #endif
 
-#define UMV_RELEASE "2.0.0" /* of this header and its archive */
+#define UMV_RELEASE "3.0.0" /* of this header and its archive */
 
 /* The numbers a call answers, in the order in which they are asked. Each call below says which of them it can give. */
 enum umv_number {
@@ -72,21 +80,22 @@ enum umv_number {
 enum umv_field {
     UMV_FIELD_VERSION = 0,     /* 1 */
     UMV_FIELD_MODE = 1,        /* second interleaving: 0 over the frame, 1 slot by slot */
-    UMV_FIELD_CHANNELS = 2,    /* I, the number of transport channels, 1 to 8 */
+    UMV_FIELD_CHANNELS = 2,    /* I, the number of transport channels, 1 to 16 */
     UMV_FIELD_SLOTS = 3,       /* T, the number of slots, 1 to 15 */
     UMV_FIELD_UPLINK = 4,      /* 0 downlink, 1 uplink */
     UMV_FIELD_TTI = 5,         /* + channel: 0, 1, 2, 3 for 10, 20, 40, 80 ms, which are F = 1, 2, 4, 8 frames */
-    UMV_FIELD_E = 13,          /* + channel: E, encoded bits of one TTI, 0 to 16,383 */
-    UMV_FIELD_RM = 21,         /* + channel: RM, the rate matching attribute, 1 to 256 */
-    UMV_FIELD_PHCHS = 29,      /* + slot: P, physical channels (codes) of the slot, 1 to 16, in an uplink sheet 1 or 2 */
-    UMV_FIELD_CAPACITIES = 44, /* + 16 * slot + phch: U, capacity of that PhCH in bits, 1 to 4,095 */
-    UMV_FIELD_LOGARITHMS = 284 /* + 16 * slot + phch, in an uplink sheet: the base-two logarithm of that PhCH's spreading
+    UMV_FIELD_E = 21,          /* + channel: E, encoded bits of one TTI, 0 to 16,383 */
+    UMV_FIELD_RM = 37,         /* + channel: RM, the rate matching attribute, 1 to 256 */
+    UMV_FIELD_PHCHS = 53,      /* + slot: P, physical channels (codes) of the slot, 1 to 16, in an uplink sheet 1 or 2 */
+    UMV_FIELD_CAPACITIES = 68, /* + 16 * slot + phch: U, capacity of that PhCH in bits, 1 to 4,095 */
+    UMV_FIELD_LOGARITHMS = 308 /* + 16 * slot + phch, in an uplink sheet: the base-two logarithm of that PhCH's spreading
                                   factor, 0 to 4 for factors 1 to 16 */
 };
 
-#define UMV_FIELDS 524           /* values in the fields of a sheet */
-#define UMV_SHEET_MOST 394       /* bytes of the longest sheet that is accepted */
-#define UMV_SHEET_FORM_MOST 484  /* bytes of the longest that has a sheet's form, which is refused with 5 or 13; a buffer for a
+#define UMV_FIELDS 548           /* values in the fields of a sheet */
+#define UMV_CHANNELS_MOST 16     /* transport channels of a sheet */
+#define UMV_SHEET_MOST 418       /* bytes of the longest sheet that is accepted */
+#define UMV_SHEET_FORM_MOST 508  /* bytes of the longest that has a sheet's form, which is refused with 5 or 13; a buffer for a
                                     sheet from outside holds one more, so that a longer one is seen */
 
 /*

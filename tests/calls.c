@@ -66,7 +66,7 @@ static void test_content_bound(void)
     expect_sheet_refused(fillers.bytes, fillers.length, UMV_MUCH_CONTENT);
 }
 
-/* The longest sheet that is accepted has 394 bytes; every other length of it is refused. */
+/* The longest sheet that is accepted has 418 bytes; every other length of it is refused. */
 static void test_longest(void)
 {
     uint16_t fields[UMV_FIELDS];
@@ -75,9 +75,9 @@ static void test_longest(void)
     CHECK(sheet.length == UMV_SHEET_MOST);
     expect_fields_written(fields, &sheet);
     expect_sheet_read(&sheet, fields);
-    CHECK(is_sizes(sizes_of(sheet.bytes, sheet.length), 8, 15, 60000, 60000, 60000));
-    for (uint32_t trch = 1; trch <= 8; trch++)
-        CHECK(is_channel(channel_of(sheet.bytes, sheet.length, trch), 1, 7500, 7500, 7500));
+    CHECK(is_sizes(sizes_of(sheet.bytes, sheet.length), 16, 15, 60000, 60000, 60000));
+    for (uint32_t trch = 1; trch <= 16; trch++)
+        CHECK(is_channel(channel_of(sheet.bytes, sheet.length, trch), 1, 3750, 3750, 3750));
     for (size_t length = 0; length < sizeof sheet.bytes; length++)
         if (length != UMV_SHEET_MOST)
             expect_sheet_refused(sheet.bytes, length, length < 2 ? UMV_SHORT : UMV_FORM);
@@ -85,7 +85,7 @@ static void test_longest(void)
     expect_fields_refused(fields, UMV_MUCH_CAPACITY);
 }
 
-/* The longest that has a sheet's form: an uplink one of 16 codes a slot, 484 bytes. It is refused with 13, with its last capacity 0
+/* The longest that has a sheet's form: an uplink one of 16 codes a slot, 508 bytes. It is refused with 13, with its last capacity 0
    with 5; every other length of it with 4. */
 static void test_longest_form(void)
 {
@@ -139,12 +139,12 @@ static void draw_fields(uint16_t *fields)
     memset(fields, 0, UMV_FIELDS * sizeof *fields);
     fields[UMV_FIELD_VERSION] = 1;
     fields[UMV_FIELD_MODE] = (uint16_t)draw(0, 1);
-    fields[UMV_FIELD_CHANNELS] = (uint16_t)draw(1, 8);
+    fields[UMV_FIELD_CHANNELS] = (uint16_t)draw(1, 16);
     fields[UMV_FIELD_SLOTS] = (uint16_t)draw(1, 15);
     fields[UMV_FIELD_UPLINK] = (uint16_t)draw(0, 1);
     for (unsigned i = 0; i < fields[UMV_FIELD_CHANNELS]; i++) {
         fields[UMV_FIELD_TTI + i] = (uint16_t)draw(0, 3);
-        fields[UMV_FIELD_E + i] = (uint16_t)(i > 0 && draw(0, 3) == 0 ? 0 : draw(1, 7000));
+        fields[UMV_FIELD_E + i] = (uint16_t)(i > 0 && draw(0, 3) == 0 ? 0 : draw(1, 3500));
         fields[UMV_FIELD_RM + i] = (uint16_t)draw(1, 256);
     }
     for (unsigned t = 0; t < fields[UMV_FIELD_SLOTS]; t++) {

@@ -8,7 +8,7 @@ bool in_use(const uint16_t *fields, unsigned place)
     if (place < UMV_FIELD_TTI)
         return true;
     if (place < UMV_FIELD_PHCHS)
-        return (place - UMV_FIELD_TTI) % 8 < fields[UMV_FIELD_CHANNELS];
+        return (place - UMV_FIELD_TTI) % UMV_CHANNELS_MOST < fields[UMV_FIELD_CHANNELS];
     if (place < UMV_FIELD_CAPACITIES)
         return place - UMV_FIELD_PHCHS < fields[UMV_FIELD_SLOTS];
     unsigned code = (place - UMV_FIELD_CAPACITIES) % 240, t = code / 16;
@@ -39,10 +39,12 @@ size_t pack(const uint16_t *fields, uint8_t *sheet)
     memset(sheet, 0, UMV_SHEET_FORM_MOST);
     put(sheet, &bits, fields[UMV_FIELD_VERSION], 4);
     put(sheet, &bits, fields[UMV_FIELD_MODE], 1);
-    put(sheet, &bits, fields[UMV_FIELD_CHANNELS] - 1u, 3);
+    put(sheet, &bits, (fields[UMV_FIELD_CHANNELS] - 1u) % 8, 3);
     put(sheet, &bits, fields[UMV_FIELD_SLOTS], 4);
     put(sheet, &bits, fields[UMV_FIELD_UPLINK], 1);
-    put(sheet, &bits, 0, 3);
+    put(sheet, &bits, 0, 1);
+    put(sheet, &bits, (fields[UMV_FIELD_CHANNELS] - 1u) / 8, 1);
+    put(sheet, &bits, 0, 1);
     for (unsigned i = 0; i < fields[UMV_FIELD_CHANNELS]; i++) {
         put(sheet, &bits, fields[UMV_FIELD_TTI + i], 2);
         put(sheet, &bits, fields[UMV_FIELD_E + i], 14);

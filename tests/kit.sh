@@ -55,6 +55,7 @@ share/doc/ummervia/PROMISES.md
 share/doc/ummervia/SPEED.md
 share/doc/ummervia/examples/Makefile
 share/doc/ummervia/examples/example.sheet
+share/doc/ummervia/examples/gateway.sheet
 share/doc/ummervia/examples/picture.sheet
 share/doc/ummervia/examples/roundtrip.c
 share/doc/ummervia/examples/sizes.c
@@ -130,6 +131,15 @@ channel 1: 6 encoded bits in 1 frame(s), 6 of them in each frame, sent as 8
     each bit is sent 1 or 2 times
 status 0" "$(told "${run[@]}" "$room/examples/sizes" "$room/sheet")"
 
+# A sheet of 16 channels: its weights RM x N are 4 x (190 x 152 + 180 x 167 + 230 x 68), 150 x 500, 160 x 528, 140 x 525, 0, in sum
+# 531,300; D is 2,928. Channel 13 has Z from 2,928 x 298,320 / 531,300 = 1,644 to 2,928 x 373,320 / 531,300 = 2,057, and the last is empty.
+told "${run[@]}" "$room/examples/sizes" "$room/examples/gateway.sheet" >"$room/gateway"
+same 'sizes, sixteen channels' 'a frame of 2928 bits in 4 slot(s)
+16
+channel 13: 500 encoded bits in 1 frame(s), 500 of them in each frame, sent as 413
+channel 16: 0 encoded bits in 8 frame(s), 0 of them in each frame, sent as 0
+status 0' "$(head -n 1 "$room/gateway"; grep -c '^channel' "$room/gateway"; grep -E '^(channel 1[36]|status)' "$room/gateway")"
+
 # Document 01: the places of its example hold bits 2, 6, 3, 5.
 place=0
 for bit in 2 6 3 5; do
@@ -175,8 +185,8 @@ whereis '10 14 00 06 00 00 04' 0 1 1 1 1 "$form"
 whereis '10 10 00 06 00 00 00' 0 1 1 1 1 'refused, 5: a capacity is 0'
 codes='refused, 13: an uplink slot has more than two codes, or a logarithm over 4'
 whereis '10 18 00 06 00 0a 00 80' 0 1 1 1 1 "$codes"
-# The longest that has a sheet's form, 484 bytes: 8 channels, 15 uplink slots of 16 codes with logarithms 7 and capacities 4,095.
-longest="17 f8 $(printf '3f ff 00 %.0s' {1..8})$(printf 'f%.0s' {1..915})"
+# The longest that has a sheet's form, 508 bytes: 16 channels, 15 uplink slots of 16 codes with logarithms 7 and capacities 4,095.
+longest="17 fa $(printf '3f ff 00 %.0s' {1..16})$(printf 'f%.0s' {1..915})"
 whereis "${longest}0" 0 1 1 1 1 "$codes"
 same 'sizes, the longest that has a form' $'the sheet is refused: 13\nstatus 1' \
     "$(told "${run[@]}" "$room/examples/sizes" "$room/sheet")"

@@ -359,8 +359,8 @@ static void compare_legend(uint32_t trch)
 /* Each channel has a colour of its own. */
 static void compare_colours(void)
 {
-    char colours[8][8] = {""};
-    for (unsigned i = 0; i < 8; i++) {
+    char colours[UMV_CHANNELS_MOST][8] = {""};
+    for (unsigned i = 0; i < UMV_CHANNELS_MOST; i++) {
         char rule[16];
         snprintf(rule, sizeof rule, ".c%u{stroke:", i + 1);
         const char *found = strstr(text, rule);
@@ -391,11 +391,13 @@ static void compare_title(void)
    them have these logarithms. */
 #define EIGHT {{0, 5000, 200}, {0, 4000, 190}, {1, 9001, 200}, {2, 11001, 210}, {3, 12001, 100}, {0, 3000, 256}, \
                {1, 2001, 256}, {0, 7000, 256}}
+#define SIXTEEN {{0, 500, 200}, {0, 400, 190}, {1, 901, 200}, {2, 1101, 210}, {3, 1201, 100}, {0, 300, 256}, {1, 0, 256}, {0, 700, 256}, \
+                 {0, 501, 201}, {0, 401, 191}, {1, 903, 201}, {2, 1103, 211}, {3, 1203, 101}, {0, 301, 255}, {1, 203, 255}, {0, 701, 255}}
 #define CODES {250, 250, 250, 250, 250, 250, 250, 250, 250, 250, 250, 250, 250, 250, 250, 250}
 static const struct {
     const char *name;
     uint16_t mode, slots;
-    uint16_t channels[8][3]; /* TTI, E, RM */
+    uint16_t channels[UMV_CHANNELS_MOST][3]; /* TTI, E, RM */
     uint16_t capacities[16];
     uint16_t uplink, logs[2];
 } sheets[] = {
@@ -405,6 +407,8 @@ static const struct {
     {"2440-slots", 1, 2, {{0, 400, 180}, {1, 1601, 200}, {2, 2403, 100}, {3, 1, 256}}, {244, 1, 500, 231, 244}, 0, {0}},
     {"60000", 0, 15, EIGHT, {4000}, 0, {0}},
     {"60000-codes", 1, 15, EIGHT, CODES, 0, {0}},
+    {"sixteen", 1, 4, SIXTEEN, {244, 244, 244, 122}, 0, {0}},
+    {"uplink-sixteen", 0, 4, SIXTEEN, {976, 122}, 1, {0, 3}},
     {"uplink-single", 0, 3, {{0, 800, 180}, {1, 1601, 200}}, {244}, 1, {4}},
     {"uplink-first", 1, 3, {{0, 800, 180}, {1, 1601, 200}}, {490, 244}, 1, {2, 4}}, /* runs of 4 and 1, the last one cut short */
     {"uplink-second", 0, 3, {{0, 800, 180}, {1, 1601, 200}}, {244, 2000}, 1, {4, 0}},
@@ -418,7 +422,7 @@ static void make_sheet(unsigned k)
     fields[UMV_FIELD_MODE] = sheets[k].mode;
     fields[UMV_FIELD_SLOTS] = sheets[k].slots;
     fields[UMV_FIELD_UPLINK] = sheets[k].uplink;
-    for (unsigned i = 0; i < 8 && sheets[k].channels[i][2] != 0; i++) {
+    for (unsigned i = 0; i < UMV_CHANNELS_MOST && sheets[k].channels[i][2] != 0; i++) {
         fields[UMV_FIELD_CHANNELS]++;
         fields[UMV_FIELD_TTI + i] = sheets[k].channels[i][0];
         fields[UMV_FIELD_E + i] = sheets[k].channels[i][1];

@@ -35,7 +35,7 @@ printf '\x10\x10\x00\x06\x00\x00' >"$room/4" && try "$room/4" 256
 printf '\x10\x10\x00\x06\x00\x00\x00' >"$room/5" && try "$room/5" 0
 printf '\x10\x10\x00\x00\x00\x00\x04' >"$room/8" && try "$room/8" 0
 printf '\x10\x18\x00\x06\x00\x0a\x00\x80' >"$room/13" && try "$room/13" 0
-{ printf '\x17\xf8' && printf '\x3f\xff\x00%.0s' {1..8} && printf '\xff%.0s' {1..457} && printf '\xf0'; } >"$room/484" && try "$room/484" 0
+{ printf '\x17\xfa' && printf '\x3f\xff\x00%.0s' {1..16} && printf '\xff%.0s' {1..457} && printf '\xf0'; } >"$room/508" && try "$room/508" 0
 for argument in 256 1000 100000000000000000000 -1 7x ''; do try examples/example.sheet 256 "$argument"; done
 
 # Without an argument it is frame 0. The picture of docs/ and the program's own case are what they say.

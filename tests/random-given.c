@@ -174,7 +174,7 @@ static uint32_t draw_place(void)
 /* The fields, with chance's values where the counts leave none, and now and then one near the bounds of a range. */
 static void draw_fields(uint16_t *fields, size_t count)
 {
-    static const uint16_t bounds[] = {0, 1, 2, 3, 4, 5, 8, 9, 16, 17, 256, 257, 4095, 4096, 16383, 16384, 65535};
+    static const uint16_t bounds[] = {0, 1, 2, 3, 4, 5, 8, 9, 15, 16, 17, 256, 257, 4095, 4096, 16383, 16384, 65535};
     for (uint32_t place = 0; place < count && place < UMV_FIELDS; place++)
         if (in_use(drawn.fields, place))
             fields[place] = drawn.fields[place];

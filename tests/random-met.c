@@ -245,17 +245,18 @@ static unsigned print_table(const char *title, const char *const *heads, size_t 
 unsigned report_met(void)
 {
     static const char *const numbers[] = {"0", "1", "2", "3", "4", "5", "6", "7", "8", "9", "10", "11", "12", "13"};
-    static const char *const kinds[] = {"mode 0", "mode 1", "394", "D", "T",
-                                        "E = 0",  "V < N",  "V = N", "V > N", "1,000", "q odd", "q even", "F | q"};
+    static const char *const kinds[] = {"mode 0", "mode 1", "418", "I = 8", "I = 9", "I = 16", "D", "T",
+                                        "TrCH 9", "E = 0",  "V < N",  "V = N", "V > N", "1,000", "q odd", "q even", "F | q"};
     static const char *const parameters[] = {"1st",  "offset", "2nd",  "offset", "3rd", "offset", "frame",
                                              "TrCH", "slot",   "PhCH", "place",  "bit", "length"};
     static const char *const runs[] = {"D",   "1 code", "1, 1", "2, 1",  "4, 1",  "8, 1", "16, 1", "1, 2",
                                        "1, 4", "1, 8",   "1, 16", "cut 1", "cut 2", "long",  "short"};
     static const char *const uplinks[] = {"codes", "log", "13, 6", "13, 7", "13, 8", "5, 13", "log>7", "unseen"};
     unsigned missing = print_table("Numbers answered", numbers, NUMBERS, print_number);
-    missing += print_table("Accepted: sheets of both modes and of 394 bytes, D and sums of T_i of 60,000; channels that are\n"
-                           "empty, punctured, unaltered, repeated, of which a bit is sent 1,000 times or more, and, in TTIs of\n"
-                           "several frames, with a q that is odd, even and no multiple of F, and a multiple of F",
+    missing += print_table("Accepted: sheets of both modes, of 418 bytes, of 8, 9 and 16 channels, D and sums of T_i of 60,000;\n"
+                           "channels that are behind the eighth, empty, punctured, unaltered, repeated, of which a bit is sent\n"
+                           "1,000 times or more, and, in TTIs of several frames, with a q that is odd, even and no multiple of F,\n"
+                           "and a multiple of F",
                            kinds, FULL_UPLINK, print_kind);
     missing += print_table("Accepted: uplink sheets of 60,000 places; with a slot of one code, of two that take so many bits at\n"
                            "their turns (the one with a run has a whole turn), of two of which this one fills up in mid-run,\n"

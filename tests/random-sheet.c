@@ -12,7 +12,7 @@ static uint16_t *const fields = drawn.fields;
 
 static void random_channels(uint32_t most_e)
 {
-    uint32_t channels = between(1, 8), most_rm = one_in(2) ? 256 : between(1, 8);
+    uint32_t channels = between(1, one_in(2) ? 8 : UMV_CHANNELS_MOST), most_rm = one_in(2) ? 256 : between(1, 8);
     fields[UMV_FIELD_CHANNELS] = (uint16_t)channels;
     for (uint32_t i = 0; i < channels; i++) {
         fields[UMV_FIELD_TTI + i] = (uint16_t)between(0, 3);
@@ -42,17 +42,18 @@ static void fullest_slots(bool too_many)
         fields[UMV_FIELD_CAPACITIES + between(0, 239)]++;
 }
 
-/* 8 channels of 7,500 bits: just 60,000 equalised, since F divides 7,500, or more. */
+/* 8 channels of 7,500 bits, or 16 of 3,750: just 60,000 equalised, since F divides both, or more. */
 static void fullest_channels(bool too_many)
 {
-    fields[UMV_FIELD_CHANNELS] = 8;
-    for (uint32_t i = 0; i < 8; i++) {
-        fields[UMV_FIELD_TTI + i] = (uint16_t)between(0, 2);
-        fields[UMV_FIELD_E + i] = 7500;
+    uint32_t channels = one_in(3) ? 8 : 16;
+    fields[UMV_FIELD_CHANNELS] = (uint16_t)channels;
+    for (uint32_t i = 0; i < channels; i++) {
+        fields[UMV_FIELD_TTI + i] = (uint16_t)between(0, channels == 8 ? 2 : 1);
+        fields[UMV_FIELD_E + i] = (uint16_t)(60000 / channels);
         fields[UMV_FIELD_RM + i] = (uint16_t)between(1, 256);
     }
     if (too_many)
-        fields[UMV_FIELD_E + between(0, 7)]++;
+        fields[UMV_FIELD_E + between(0, channels - 1)]++;
 }
 
 /* Channels of few bits, of which each is sent thousands of times in the greatest frame. */
@@ -131,7 +132,7 @@ static void damage_fields(void)
     if (one_in(25))
         fields[UMV_FIELD_CAPACITIES + between(0, one_in(2) ? 1 : 15)] = 0;
     if (one_in(40))
-        memset(&fields[UMV_FIELD_E], 0, 8 * sizeof *fields);
+        memset(&fields[UMV_FIELD_E], 0, UMV_CHANNELS_MOST * sizeof *fields);
 }
 
 /* What only bytes can have wrong. */
@@ -140,7 +141,7 @@ static void damage_sheet(size_t bits)
     uint8_t *sheet = drawn.sheet;
     size_t length = drawn.packed_len;
     if (one_in(40))
-        sheet[1] |= (uint8_t)between(1, 7); /* spare bits */
+        sheet[1] |= (uint8_t)between(1, 7); /* spare bits, and the top bit of I - 1 */
     if (one_in(20) && bits % 8 != 0)
         sheet[length - 1] |= (uint8_t)(1u << between(0, 7 - (uint32_t)(bits % 8))); /* padding */
     if (one_in(40)) {
@@ -167,7 +168,7 @@ static uint32_t kinds_of_channel(uint32_t trch)
 {
     uint64_t f, e, n, v;
     reference.channel(drawn.sheet, drawn.sheet_len, trch, &f, &e, &n, &v);
-    uint32_t kinds = (uint32_t)(e == 0) << EMPTY | (uint32_t)(v < n) << PUNCTURED | (uint32_t)(v == n && n != 0) << EXACT |
+    uint32_t kinds = (uint32_t)(trch > 8) << UPPER | (uint32_t)(e == 0) << EMPTY | (uint32_t)(v < n) << PUNCTURED | (uint32_t)(v == n && n != 0) << EXACT |
                      (uint32_t)(v > n) << REPEATED | (uint32_t)(n != 0 && v >= 1000 * n) << MANY_TIMES;
     if (v == n || f == 1)
         return kinds;
@@ -214,6 +215,8 @@ static void measure(void)
         return;
     bool by_slot = drawn.sheet[0] >> 3 & 1;
     drawn.kinds = 1u << (by_slot ? BY_SLOT : OVER_FRAME) | (uint32_t)(drawn.sheet_len == UMV_SHEET_MOST) << LONGEST |
+                  (uint32_t)(drawn.channels == 8) << EIGHT | (uint32_t)(drawn.channels == 9) << NINE |
+                  (uint32_t)(drawn.channels == 16) << SIXTEEN |
                   (uint32_t)(drawn.capacity == 60000) << FULL_FRAME | (uint32_t)(drawn.joined == 60000) << FULL_JOINED |
                   kinds_of_uplink();
     for (uint32_t i = 0; i < drawn.channels; i++)

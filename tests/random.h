@@ -4,13 +4,17 @@
 
 #include "call.h"
 
-/* Kinds of sheet; from EMPTY on, kinds of channel; from FULL_UPLINK on, kinds of uplink sheet, and of its slots. */
+/* Kinds of sheet; from UPPER on, kinds of channel; from FULL_UPLINK on, kinds of uplink sheet, and of its slots. */
 enum kind {
     OVER_FRAME,  /* mode 0 */
     BY_SLOT,     /* mode 1 */
-    LONGEST,     /* 394 bytes: 8 channels, 15 slots of 16 PhCHs */
+    LONGEST,     /* 418 bytes: 16 channels, 15 slots of 16 PhCHs */
+    EIGHT,       /* 8 channels, as many as three bits count */
+    NINE,        /* 9 channels, one more */
+    SIXTEEN,     /* 16 channels */
     FULL_FRAME,  /* D is 60,000 */
     FULL_JOINED, /* the sum of T_i is 60,000 */
+    UPPER,       /* a channel behind the eighth */
     EMPTY,       /* E is 0 */
     PUNCTURED,   /* V below N */
     EXACT,       /* V is N, and not 0 */
@@ -41,8 +45,10 @@ struct drawn {
     /* Of an accepted sheet, otherwise 0: */
     uint64_t channels, slots, contents, capacity, joined;
     uint32_t kinds;            /* a bit each */
-    uint32_t channel_kinds[8]; /* of each channel */
+    uint32_t channel_kinds[UMV_CHANNELS_MOST];
 };
+
+_Static_assert(KINDS <= 32, "a kind is a bit of 32");
 
 extern struct drawn drawn;
 

@@ -1,7 +1,7 @@
 #!/usr/bin/env bash
 # Holds docs/READING.md against the sources: its path must name every definition that the contracts of the public calls rest on, each
 # under its file, and no other; its second list every definition that a theorem pins, with what only such definitions rest on; its third what
-# the theorems of the demands and of C-20 say besides. No two files of specs/ may define one name.
+# the theorems of the demands, of C-20 and of stored sheets say besides. No two files of specs/ may define one name.
 #
 # The set is derived so. It begins with the calls: what crates/ummervia/src/lib.rt passes on (`pub use`), the extern "C" functions of
 # that crate, and list_sheet. What a call rests on is what the words of its head name, from `fn` to the body; what a definition rests
@@ -129,7 +129,7 @@ derive() {
         for (thing in pinned) { if (!(thing in reached)) print "MISSING a call that rests on", thing; delete reached[thing]; reach(thing) }
         follow()
         kind = "demands"
-        for (thing in lines) if (thing ~ /^crates\/demands\/proofs\/(Demand[1-3]|Thinned|Downlink)[.]antt /) reach(thing)
+        for (thing in lines) if (thing ~ /^crates\/demands\/proofs\/(Demand[1-3]|Thinned|Stored)[.]antt /) reach(thing)
         follow()
         for (k = 1; k <= last; k++) print which[queue[k]], queue[k], lines[queue[k]]
         for (thing in lines) if (thing ~ /\/specs\//) {
@@ -156,7 +156,7 @@ cut -d ' ' -f 1-3 "$room/set" >"$room/due"
 told >"$room/told"
 count=$(grep -c '^path ' "$room/due")
 echo "reading: $count things, $(awk '/^path/ { n += $4 } END { print n }' "$room/set") lines, $(grep -Ec '^path crates/(demands/|counters/specs/Promised)' "$room/due") of them of demand 1;" \
-    "$(grep -c '^pinned ' "$room/due") pinned, $(grep -c '^demands ' "$room/due") of demands 2 and 3 and of C-20 and C-11 besides, $(uniq -d "$room/told" | wc -l) named twice"
+    "$(grep -c '^pinned ' "$room/due") pinned, $(grep -c '^demands ' "$room/due") of demands 2 and 3, of C-20 and of stored sheets besides, $(uniq -d "$room/told" | wc -l) named twice"
 if grep MISSING "$room/set"; then exit 1; fi
 diff --label sources --label "$paper" -U 0 "$room/due" "$room/told"
 grep -q "$count things" "$paper" || { echo "reading: $paper says another number" && exit 1; }

@@ -46,14 +46,16 @@ static uint32_t read_fields(const uint8_t *sheet, size_t sheet_len, struct form 
         return 1;
     form->version = take(&reader, 4);
     form->mode = take(&reader, 1);
-    form->I = take(&reader, 3) + 1;
+    uint32_t low = take(&reader, 3); /* of I-1, whose top bit follows after T */
     form->T = take(&reader, 4);
     if (form->version != 1)
         return 2;
     if (form->T == 0)
         return 3;
     form->uplink = take(&reader, 1);
-    uint32_t spare = take(&reader, 3);
+    uint32_t spare = take(&reader, 1);
+    form->I = (take(&reader, 1) << 3 | low) + 1;
+    spare |= take(&reader, 1);
     take_channels(&reader, form);
     take_slots(&reader, form);
     uint32_t padding = take(&reader, (8 - reader.bit % 8) % 8);
@@ -235,7 +237,7 @@ static uint32_t check_fields(const uint16_t *fields, struct form *form)
         return 2;
     if (form->T == 0)
         return 3;
-    if (form->mode > 1 || form->uplink > 1 || form->I < 1 || form->I > 8 || form->T > 15)
+    if (form->mode > 1 || form->uplink > 1 || form->I < 1 || form->I > 16 || form->T > 15)
         return 4;
     for (uint32_t i = 0; i < form->I; i++) {
         struct channel *c = &form->channels[i];
@@ -304,10 +306,12 @@ uint32_t ref_sheet_write(const uint16_t *fields, size_t fields_len, uint8_t *she
     memset(sheet, 0, length);
     put(sheet, &bit, 4, form.version);
     put(sheet, &bit, 1, form.mode);
-    put(sheet, &bit, 3, form.I - 1);
+    put(sheet, &bit, 3, form.I - 1); /* the low three bits */
     put(sheet, &bit, 4, form.T);
     put(sheet, &bit, 1, form.uplink);
-    put(sheet, &bit, 3, 0);
+    put(sheet, &bit, 1, 0);
+    put(sheet, &bit, 1, (form.I - 1) >> 3);
+    put(sheet, &bit, 1, 0);
     for (uint32_t i = 0; i < form.I; i++) {
         put(sheet, &bit, 2, form.channels[i].TTI);
         put(sheet, &bit, 14, form.channels[i].E);

@@ -11,13 +11,13 @@
 
 enum {
     MOST = 60000, /* values of a frame, and of all equalised channels */
-    FIELDS = 524, /* version, mode, I, T, uplink; 8 TTI, 8 E, 8 RM; 15 P; 15 times 16 U, as many logarithms */
+    FIELDS = 548, /* version, mode, I, T, uplink; 16 TTI, 16 E, 16 RM; 15 P; 15 times 16 U, as many logarithms */
     FIELD_TTI = 5,
-    FIELD_E = 13,
-    FIELD_RM = 21,
-    FIELD_P = 29,
-    FIELD_U = 44,
-    FIELD_LOG = 284
+    FIELD_E = 21,
+    FIELD_RM = 37,
+    FIELD_P = 53,
+    FIELD_U = 68,
+    FIELD_LOG = 308
 };
 
 struct channel {
@@ -37,7 +37,7 @@ struct slot {
 /* A sheet's fields, and what follows from them. */
 struct form {
     uint32_t version, mode, I, T, uplink;
-    struct channel channels[8];
+    struct channel channels[16];
     struct slot slots[15];
     uint32_t contents; /* sum of E */
     uint32_t joined;   /* sum of T_i */

@@ -28,6 +28,7 @@ static const struct {
     {4, "10 18 00 06 00 00 04", "uplink bit, without a logarithm"},
     {4, "10 10 00 06 00 08 00 80", "logarithm, without the uplink bit"},
     {4, "10 1c 00 06 00 08 00 80", "first spare bit of an uplink sheet"},
+    {4, "10 12 00 06 00 00 04", "top bit of I - 1, with one channel"},
     {4, "10 18 00 06 00 0a 00 81", "padding bit; logarithm 5"},
     {4, "10 18 00 06 00 24 00 88 01 10 02 00 00", "a byte more; three codes"},
     {4, "10 18 00 06 00 24 00 88 01 10 02", "a byte less; three codes"},
@@ -101,7 +102,8 @@ static const struct field_fault field_faults[] = {
     {4, "uplink 2", 1, {{UMV_FIELD_UPLINK, 2}}},
     {4, "uplink 2; capacity 0", 2, {{UMV_FIELD_UPLINK, 2}, {U, 0}}},
     {4, "no channel", 1, {{UMV_FIELD_CHANNELS, 0}}},
-    {4, "9 channels", 1, {{UMV_FIELD_CHANNELS, 9}}},
+    {4, "9 channels, the ninth of RM 0", 1, {{UMV_FIELD_CHANNELS, 9}}},
+    {4, "17 channels", 1, {{UMV_FIELD_CHANNELS, 17}}},
     {4, "16 slots", 1, {{UMV_FIELD_SLOTS, 16}}},
     {4, "TTI 4", 1, {{UMV_FIELD_TTI + 2, 4}}},
     {4, "E 16,384", 1, {{E + 2, 16384}}},
@@ -153,8 +155,8 @@ static void test_counts(void)
 {
     uint16_t fields[UMV_FIELDS];
     make_longest(fields, 1);
-    fields[UMV_FIELD_E] = 1; /* the ninth TTI */
-    fields[UMV_FIELD_CHANNELS] = 9;
+    fields[UMV_FIELD_E] = 1; /* the seventeenth TTI */
+    fields[UMV_FIELD_CHANNELS] = 17;
     expect_fields_refused(fields, UMV_FORM);
     make_longest(fields, 1); /* the sixteenth P is the first capacity */
     fields[UMV_FIELD_SLOTS] = 16;
@@ -176,19 +178,19 @@ static void test_uplink_sums(void)
     uint16_t fields[UMV_FIELDS];
     make_longest(fields, 251);
     fields[UMV_FIELD_UPLINK] = 1;
-    fields[UMV_FIELD_E] = 7501;
+    fields[UMV_FIELD_E] = 3751;
     expect_fields_refused(fields, UMV_UPLINK_CODES); /* and contents and capacities over 60,000 */
     make_full_uplink(fields);
     struct sheet sheet = sheet_with(fields);
     expect_fields_written(fields, &sheet);
     fields[UMV_FIELD_CAPACITIES + 16 * 14 + 1] = 2001;
     expect_fields_refused(fields, UMV_MUCH_CAPACITY);
-    fields[UMV_FIELD_E] = 7501;
+    fields[UMV_FIELD_E] = 3751;
     expect_fields_refused(fields, UMV_MUCH_CONTENT); /* and capacities over 60,000 */
     fields[UMV_FIELD_LOGARITHMS + 16 * 14 + 1] = 5;
     expect_fields_refused(fields, UMV_UPLINK_CODES); /* and both */
     make_full_uplink(fields);
-    memset(fields + UMV_FIELD_E, 0, 8 * sizeof *fields);
+    memset(fields + UMV_FIELD_E, 0, UMV_CHANNELS_MOST * sizeof *fields);
     expect_fields_refused(fields, UMV_NO_CONTENT);
 }
 
@@ -200,16 +202,16 @@ static void test_field_sums(void)
     fields[UMV_FIELD_CAPACITIES + 239] = 0;
     expect_fields_refused(fields, UMV_NO_CAPACITY); /* and capacities over 60,000 */
     make_longest(fields, 251);
-    fields[UMV_FIELD_E] = 7501;
+    fields[UMV_FIELD_E] = 3751;
     expect_fields_refused(fields, UMV_MUCH_CONTENT); /* and capacities over 60,000 */
-    memset(fields + UMV_FIELD_E, 0, 8 * sizeof *fields);
+    memset(fields + UMV_FIELD_E, 0, UMV_CHANNELS_MOST * sizeof *fields);
     expect_fields_refused(fields, UMV_MUCH_CAPACITY); /* and no content */
     make_longest(fields, 250);
-    fields[UMV_FIELD_E] = 7501;
+    fields[UMV_FIELD_E] = 3751;
     expect_fields_refused(fields, UMV_MUCH_CONTENT);
-    memset(fields + UMV_FIELD_E, 0, 8 * sizeof *fields);
+    memset(fields + UMV_FIELD_E, 0, UMV_CHANNELS_MOST * sizeof *fields);
     expect_fields_refused(fields, UMV_NO_CONTENT);
-    fields[UMV_FIELD_E + 7] = 1;
+    fields[UMV_FIELD_E + 15] = 1;
     struct sheet sheet = sheet_with(fields);
     expect_fields_written(fields, &sheet);
 }

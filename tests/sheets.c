@@ -126,9 +126,9 @@ void make_longest(uint16_t *fields, uint16_t capacity)
 {
     memset(fields, 0, UMV_FIELDS * sizeof *fields);
     fields[UMV_FIELD_VERSION] = 1;
-    fields[UMV_FIELD_CHANNELS] = 8;
-    for (unsigned i = 0; i < 8; i++) {
-        fields[UMV_FIELD_E + i] = 7500;
+    fields[UMV_FIELD_CHANNELS] = UMV_CHANNELS_MOST;
+    for (unsigned i = 0; i < UMV_CHANNELS_MOST; i++) {
+        fields[UMV_FIELD_E + i] = 3750;
         fields[UMV_FIELD_RM + i] = 256;
     }
     fill_slots(fields, capacity);

@@ -5,7 +5,7 @@
 #include <stdint.h>
 
 enum {
-    SMALL_CHANNELS = 8, /* at most */
+    SMALL_CHANNELS = 16, /* at most */
     SMALL_E = 240,      /* encoded bits of a channel, at most */
     SMALL_PLACES = 300  /* of a frame, at most */
 };

@@ -112,7 +112,7 @@ field-read s at n x h l =
     ∙ ap (λ (i : ℕ). val (bitAt s) i n) g
 
 -- 1 << n
-pub shifted : (n : ℕ) → n ≤ 14 → 1 * 2 ^ n % 18446744073709551616 ≡ 2 ^ n
+pub shifted : (n : ℕ) → n ≤ 16 → 1 * 2 ^ n % 18446744073709551616 ≡ 2 ^ n
 shifted n h = ap (λ (y : ℕ). y % 18446744073709551616) (one-mul (2 ^ n)) ∙ mod-eq-of-lt (omega (arith, pow-mono h))
 
 -- bytes packed again from their own bits

@@ -35,12 +35,19 @@ fn two_at(s: &[u8], k: usize) -> u64
 
 // The field of n bits at `at`, which two bytes hold.
 pub fn read_field(s: &[u8], at: usize, n: usize) -> u64
-    requires { ⌜ (n ≤ 14) × (at % 8 + n ≤ 16) × (at ≤ 65536) ⌝ }
+    requires { ⌜ (at % 8 + n ≤ 16) × (at ≤ 65536) ⌝ }
     ensures { λ r. ⌜ (r ≡ bitsAt (now (s .entry)) at n) × (r < 2 ^ n) ⌝ }
 {
     let two = two_at(s, at / 8);
     let behind = (16 - at % 8 - n) as u64;
     (two >> behind) % (1u64 << (n as u64))
+}
+
+// The field of eight bits that byte k is: two bytes are not asked for.
+pub fn read_byte(s: &[u8], k: usize) -> u64
+    ensures { λ r. ⌜ (r ≡ bitsAt (now (s .entry)) (8 * k) 8) × (r < 256) ⌝ }
+{
+    byte_at(s, k)
 }
 
 // Puts the n bits of v, one to a byte, from `at` on.

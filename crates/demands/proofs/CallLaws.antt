@@ -48,7 +48,7 @@ use Rattle.receiving.specs.declared.listening.HeardAnswer.{HeardAnswer}
 use Rattle.receiving.specs.declared.listening.LinkAnswer.{LinkAnswer}
 use Rattle.demands.specs.Exactly.{Saying}
 use Rattle.demands.specs.Answers.{Answers, Points}
-use Rattle.demands.specs.Table.{BadByte, BadSoft}
+use Rattle.demands.specs.Table.{BadByte, BadSoft, rowLength}
 use Rattle.listing.specs.Listing.{linesTo, refusal, listingOf, textOf}
 use Rattle.listing.specs.declared.Text.{Text}
 use Rattle.demands.specs.Calls.{SheetReadCall, SheetLengthCall, SheetWriteCall, UmvSheetReadCall, UmvSheetLengthCall, UmvSheetWriteCall, SizesCall, ChannelCall, NameCall, PartCall, PartOfCall, BuildCall, MultiplexCall, SpreadCall, GatherCall, TakeBackCall, FinishCall, HeardCall, UmvHeardCall, LinkCall, ListSheetCall}
@@ -91,18 +91,18 @@ pub sheet-write-law : (sh : Sheet) (old : List ℕ) (o : Outcome ℕ) → o ≡ 
 sheet-write-law sh old o e = left-wrote (write-means sh (length old)) refl (bytesNeeded sh) (bytesOf sh) old o e
 
 pub umv-sheet-read-law : (s old : List ℕ) (o : Outcome ℕ) → o ≡ readInto s old → UmvSheetReadCall s old (o .number) (o .at, o .buffer)
-umv-sheet-read-law s old o e = left-wrote (read-means s (length old)) refl 524 (flatOf (sheetOf s)) old o e
+umv-sheet-read-law s old o e = left-wrote (read-means s (length old)) refl rowLength (flatOf (sheetOf s)) old o e
 
 -- a line before the others: 11 where it holds, else what they have
 module _ (row : List ℕ) where
   abbrev first : Line
-  first = line (not (eqb (length row) 524)) 11
+  first = line (not (eqb (length row) rowLength)) 11
 
-  row-wrong : length row ≢ 524 → (ls : List Line) → firstOf (first ∷ ls) ≡ 11
-  row-wrong h ls = ap (λ (b : Bool). cond (not b) 11 (firstOf ls)) (ne-eqb (length row) 524 h)
+  row-wrong : length row ≢ rowLength → (ls : List Line) → firstOf (first ∷ ls) ≡ 11
+  row-wrong h ls = ap (λ (b : Bool). cond (not b) 11 (firstOf ls)) (ne-eqb (length row) rowLength h)
 
-  row-right : length row ≡ 524 → (ls : List Line) → firstOf (first ∷ ls) ≡ firstOf ls
-  row-right h ls = ap (λ (b : Bool). cond (not b) 11 (firstOf ls)) (eq-eqb (length row) 524 h)
+  row-right : length row ≡ rowLength → (ls : List Line) → firstOf (first ∷ ls) ≡ firstOf ls
+  row-right h ls = ap (λ (b : Bool). cond (not b) 11 (firstOf ls)) (eq-eqb (length row) rowLength h)
 
 pub umv-sheet-length-law : (row : List ℕ) (a : Answer) → a ≡ lengthFrom row → UmvSheetLengthCall row (a .number) (a .at)
 umv-sheet-length-law row a e =

@@ -5,4 +5,4 @@ pub mod Table
 pub mod Calls
 pub mod Words
 pub mod Thinned
-pub mod Downlink
+pub mod Stored

@@ -126,7 +126,7 @@ drop-zeros n zero = rw sub-zero
 drop-zeros zero (suc at) = rw zero-sub
 drop-zeros (suc n) (suc at) = rw suc-sub-suc (drop-zeros n at)
 
--- over any length, since 1024 zeros would be computed
+-- over any length, since a room of zeros would be computed
 zeros-past : (n : ℕ) {out : List ℕ} {at : ℕ} (l : List ℕ) → at ≡ length l → out ≡ l ++ drop at (replicate n 0)
     → _≡_ {A = Text} (record { bytes = out; len = at }) (record { bytes = l ++ replicate (n - length l) 0; len = length l })
 zeros-past n l e p = rw (p, e, drop-zeros)

@@ -2,12 +2,13 @@
 use mathlib.Core.Path.{_≡_}
 use mathlib.Core.Bool.{cond}
 use mathlib.Core.List.{List, [], _∷_, _++_}
-use Prim.Native.Nat.{ℕ, zero, suc, _+_, _-_, _^_}
+use Prim.Native.Nat.{ℕ, zero, suc, _+_, _-_, _*_, _^_}
 use lib.Dec.{ltb}
 use lib.ListN.{length, replicate}
 use Rattle.io.specs.Digits.{digits}
 use Rattle.laws.specs.Laid.{Laid}
 use Rattle.counters.specs.Lines.{given}
+use Rattle.sheet.specs.Counts.{mostChannels}
 use Rattle.sheet.specs.Fields.{sheetOf, encodedOf}
 use Rattle.sheet.specs.Sizes.{framesOf, sizeOf, capacityAll}
 use Rattle.sheet.specs.Numbers.{readAnswer}
@@ -16,9 +17,9 @@ use Rattle.matching.specs.Shares.{shareOf}
 use Rattle.listing.specs.Ascii.{ascii}
 use Rattle.listing.specs.declared.Text.{Text}
 
--- the bytes that a listing has room for
+-- the bytes that a listing has room for: a first line of at most 87, and one of at most 113 for each channel
 abbrev pub room : ℕ
-room = 1024
+room = 87 + 113 * mostChannels
 
 -- the first k from there on, of `more` that are tried, with n < 10 ^ k
 unfoldable pub leastFrom : ℕ → ℕ → ℕ → ℕ

@@ -11,11 +11,12 @@ use opening::capacity;
 use opening::open_sheet;
 use opening::share;
 use sheet::count;
+use sheet::counts::CHANNELS;
 use sheet::sizes::frames;
 use sheet::wide;
 
-// A first line of at most 87 bytes and eight of at most 113 fit.
-pub const ROOM: usize = 1024;
+// A first line of at most 87 bytes, and one of at most 113 for each channel.
+pub const ROOM: usize = 87 + 113 * CHANNELS;
 
 // A text and its length, zeros past it.
 pub struct Text {

@@ -25,17 +25,28 @@ fn say_fonts(out: &mut [u8; ROOM], at: usize, scale: Scale) -> usize {
     )
 }
 
-// Colours that the colour-blind tell apart: those of Okabe and Ito, with grey for black, on which no mark would be seen. c0 is no channel's.
+// Colours that the colour-blind tell apart: those of Okabe and Ito, with grey for black, on which no mark would be seen; channels 9 to 16 have
+// them once more, lighter, but yellow and grey darker. c0 is no channel's.
 fn say_colours(out: &mut [u8; ROOM], at: usize) -> usize {
     let a = say(
         out,
         at,
         b".c0{stroke:#ccc}.c1{stroke:#e69f00}.c2{stroke:#56b4e9}.c3{stroke:#009e73}.c4{stroke:#f0e442}\n",
     );
-    say(
+    let b = say(
         out,
         a,
         b".c5{stroke:#0072b2}.c6{stroke:#d55e00}.c7{stroke:#cc79a7}.c8{stroke:#999}\n",
+    );
+    let c = say(
+        out,
+        b,
+        b".c9{stroke:#f3cf80}.c10{stroke:#abdaf4}.c11{stroke:#80cfb9}.c12{stroke:#b3aa33}\n",
+    );
+    say(
+        out,
+        c,
+        b".c13{stroke:#80b9d9}.c14{stroke:#eaaf80}.c15{stroke:#e6bcd3}.c16{stroke:#666}\n",
     )
 }
 

@@ -9,7 +9,7 @@ use Rattle.laws.proofs.TableLaws.{table-length, zeros-at, filled-at, upTo-below
 use Rattle.bits.specs.Bits.{bitsAt}
 use Rattle.bits.proofs.BitLaws.{bits-lt}
 use Rattle.sheet.specs.Counts.{mostChannels, mostSlots, mostCodes, mostCapacities, mostPaired, mostLogs}
-use Rattle.sheet.specs.Layout.{versionAt, versionWidth, modeAt, modeWidth, countAt, countWidth, slotsAt, slotsWidth, uplinkAt, uplinkWidth, ttiWidth, encodedWidth, ratioWidth, logWidth, capacityWidth, channelAt, slotWidth}
+use Rattle.sheet.specs.Layout.{versionAt, versionWidth, modeAt, modeWidth, countAt, countWidth, slotsAt, slotsWidth, uplinkAt, uplinkWidth, topAt, topWidth, ttiWidth, encodedWidth, ratioWidth, logWidth, capacityWidth, channelAt, slotWidth}
 use Rattle.sheet.specs.Fields.{channelsIn, slotsIn, uplinkIn, ttiIn, encodedIn, ratioIn, slotFrom, phchsIn, codeLog, codeCapacity, codeIn, codesIn, sheetOf, ttiOf, encodedOf, ratioOf, phchsOf, capacityOf, logOf}
 use Rattle.sheet.specs.Range.{Ranged}
 use Rattle.sheet.proofs.SlotLaws.{phchs-most, uplink-most, code-in, logs-none}
@@ -19,7 +19,7 @@ abbrev pub startIn : List ℕ → ℕ
 startIn s = channelAt (channelsIn s)
 
 pub channels-most : (s : List ℕ) → channelsIn s ≤ mostChannels
-channels-most s = omega (arith, bits-lt s countAt countWidth)
+channels-most s = omega (arith, bits-lt s countAt countWidth, bits-lt s topAt topWidth)
 
 pub slots-most : (s : List ℕ) → slotsIn s ≤ mostSlots
 slots-most s = omega (arith, bits-lt s slotsAt slotsWidth)

@@ -13,10 +13,10 @@ use Rattle.laws.proofs.SumLaws.{sum-most, any-each}
 use Rattle.laws.proofs.TestLaws.{or-left, or-right}
 use Rattle.counters.specs.Lines.{firstOf, given}
 use Rattle.counters.proofs.LineLaws.{Numbered, numbered-of, clear-of, clear-at, pass-zero, given-yes, given-no}
-use Rattle.bits.specs.Bits.{val, bitsAt}
+use Rattle.bits.specs.Bits.{bitsAt}
 use Rattle.sheet.specs.Counts.{mostCodes, mostPaired, mostBits, mostLog, longestSheet}
-use Rattle.sheet.specs.Layout.{spareAt, spareWidth, slotWidth}
-use Rattle.sheet.specs.Fields.{headIn, sparesIn, sheetOf, blank, phchsOf, capacityOf, logOf}
+use Rattle.sheet.specs.Layout.{slotWidth}
+use Rattle.sheet.specs.Fields.{sparesIn, sheetOf, blank, phchsOf, capacityOf, logOf}
 use Rattle.sheet.specs.Sizes.{equalisedAll, capacityAll, bitsNeeded, bytesNeeded}
 use Rattle.sheet.specs.Numbers.{emptyPlace, slotBeyond, someBeyond, beyondUplink, silent, misfit, loadLines, readLines, readNumber, readAnswer}
 use Rattle.sheet.specs.Range.{Ranged}
@@ -36,17 +36,6 @@ paddingSet s = not (eqb (bitsAt s (bitsNeeded (sheetOf s)) (8 * length s - bitsN
 
 abbrev pub emptySlot : Sheet → ℕ → Bool
 emptySlot sh t = anyTo (λ p. eqb (capacityOf sh t p) 0) (phchsOf sh t)
-
--- the spare bits at once: they are 0 where each of them is
-at-once : (s : List ℕ) → bitsAt s spareAt spareWidth ≡ 4 * headIn s 5 + 2 * headIn s 6 + headIn s 7
-unfolding val
-at-once s = omega arith
-
-pub spares-none : (s : List ℕ) → bitsAt s spareAt spareWidth ≡ 0 → sparesIn s ≡ 0
-spares-none s h = omega (arith, at-once s)
-
-pub none-spare : (s : List ℕ) → sparesIn s ≡ 0 → bitsAt s spareAt spareWidth ≡ 0
-none-spare s h = omega (arith, at-once s)
 
 pub read-numbered : (s : List ℕ) → Numbered (readLines s)
 read-numbered s = numbered-of (readLines s) refl

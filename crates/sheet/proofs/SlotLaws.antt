@@ -1,7 +1,7 @@
 -- Laws of reading: one channel more, one physical channel more, a slot that is done, and the fields put together.
 use mathlib.Core.Path.{_≡_, refl, sym, ap, ap₂, _∙_}
 use mathlib.Core.List.{List}
-use Prim.Native.Nat.{ℕ, _+_, _*_, _/_, _%_, _≤_, _<_}
+use Prim.Native.Nat.{ℕ, _+_, _*_, _/_, _%_, _^_, _≤_, _<_}
 use native.Mathlib.Nat.{add-zero, mul-comm, mul-add, mul-le-mul-right}
 use native.Mathlib.Numerals.{add-one}
 use native.Mathlib.Omega.{arith}
@@ -10,20 +10,25 @@ use lib.Arith.{digits-div, digits-mod}
 use lib.ListN.{getD, set, replicate}
 use Rattle.laws.specs.Tables.{upTo}
 use Rattle.laws.proofs.TableLaws.{filled-at, table-set, table-same, table-zeros, upTo-below, upTo-past, upTo-zero}
-use Rattle.bits.specs.Bits.{val, bitsAt}
-use Rattle.bits.proofs.BitLaws.{bits-lt}
+use Rattle.bits.specs.Bits.{val, bitAt, bitsAt}
+use Rattle.bits.proofs.BitLaws.{bits-lt, val-append}
 use Rattle.sheet.specs.Counts.{mostChannels, mostSlots, mostCodes, mostCapacities, mostPaired, mostLogs}
-use Rattle.sheet.specs.Layout.{versionAt, versionWidth, modeAt, modeWidth, countAt, countWidth, slotsAt, slotsWidth, uplinkAt, uplinkWidth, ttiWidth, encodedWidth, ratioWidth, codesWidth, logWidth, capacityWidth, channelAt, slotWidth}
-use Rattle.sheet.specs.Fields.{uplinkIn, ttiIn, encodedIn, ratioIn, slotFrom, phchsIn, codeLog, codeCapacity, codeIn, sheetOf}
+use Rattle.sheet.specs.Layout.{versionAt, versionWidth, modeAt, modeWidth, slotsAt, slotsWidth, uplinkAt, uplinkWidth, ttiWidth, encodedWidth, ratioWidth, codesWidth, logWidth, capacityWidth, channelAt, slotWidth}
+use Rattle.sheet.specs.Fields.{channelsIn, uplinkIn, ttiIn, encodedIn, ratioIn, slotFrom, phchsIn, codeLog, codeCapacity, codeIn, sheetOf}
 use Rattle.sheet.specs.Reading.{channelsTo, slotsTo, logsTo}
 use Rattle.sheet.specs.declared.fields.Channels.{Channels}
 use Rattle.sheet.specs.declared.fields.Slots.{Slots}
 use Rattle.sheet.specs.declared.Sheet.{Sheet}
 
-pub channels-more : (s : List ℕ) (k : ℕ) (c : Channels) {a b d : ℕ} → k < mostChannels → c ≡ channelsTo s k → a ≡ ttiIn s k → b ≡ encodedIn s k
+-- x is TTI and E of channel k as one number, d is RM-1
+pub channels-more : (s : List ℕ) (k : ℕ) (c : Channels) {x d : ℕ} → k < mostChannels → c ≡ channelsTo s k → x ≡ bitsAt s (channelAt k) (ttiWidth + encodedWidth)
     → d ≡ bitsAt s (channelAt k + (ttiWidth + encodedWidth)) ratioWidth
-    → _≡_ {A = Channels} (record { tti = set (c .tti) k a; e = set (c .e) k b; rm = set (c .rm) k (d + 1) }) (channelsTo s (k + 1))
-channels-more s k c h e ea eb ed =
+    → _≡_ {A = Channels} (record { tti = set (c .tti) k (x / 2 ^ encodedWidth); e = set (c .e) k (x % 2 ^ encodedWidth); rm = set (c .rm) k (d + 1) })
+    (channelsTo s (k + 1))
+channels-more s k c {x} h e ex ed =
+    let both = val-append (bitAt s) (channelAt k) ttiWidth encodedWidth in
+    let ea : x / 2 ^ encodedWidth ≡ ttiIn s k = omega (arith, ex, both, bits-lt s (channelAt k + ttiWidth) encodedWidth) in
+    let eb : x % 2 ^ encodedWidth ≡ encodedIn s k = omega (arith, ex, both, bits-lt s (channelAt k + ttiWidth) encodedWidth) in
     rw (e, ea, eb, ed, table-set (ttiIn s) mostChannels k h, table-set (encodedIn s) mostChannels k h, table-set (ratioIn s) mostChannels k h)
 
 pub phchs-most : (s : List ℕ) (start t : ℕ) → phchsIn s start t ≤ mostCodes
@@ -131,13 +136,13 @@ logs-none s start m z =
 
 -- the parts that were read make the sheet
 pub joined : (s : List ℕ) {v m n t u : ℕ} (c : Channels) (r : Slots) {l : List ℕ} → v ≡ bitsAt s versionAt versionWidth → m ≡ bitsAt s modeAt modeWidth
-    → n ≡ bitsAt s countAt countWidth → t ≡ bitsAt s slotsAt slotsWidth → u ≡ bitsAt s uplinkAt uplinkWidth → c ≡ channelsTo s (n + 1)
-    → r ≡ slotsTo s (channelAt (n + 1)) t (mostCodes * t) → l ≡ logsTo s (channelAt (n + 1)) (mostPaired * t)
+    → n ≡ channelsIn s → t ≡ bitsAt s slotsAt slotsWidth → u ≡ bitsAt s uplinkAt uplinkWidth → c ≡ channelsTo s n → r ≡ slotsTo s (channelAt n) t (mostCodes * t)
+    → l ≡ logsTo s (channelAt n) (mostPaired * t)
     → _≡_ {A = Sheet}
     (record {
       version = v;
       mode = m;
-      channels = n + 1;
+      channels = n;
       slots = t;
       uplink = u;
       tti = c .tti;

@@ -4,7 +4,7 @@ use Rattle.sheet.specs.Layout.{channelAt, slotWidth}
 
 -- transport channels, slots, and physical channels (codes) of a slot
 abbrev pub mostChannels : ℕ
-mostChannels = 8
+mostChannels = 16
 
 abbrev pub mostSlots : ℕ
 mostSlots = 15

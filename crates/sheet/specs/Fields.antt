@@ -1,20 +1,20 @@
 -- The fields of a sheet, as its bytes have them. Channels, slots and physical channels are counted from 0 here.
 use mathlib.Core.List.{List}
-use Prim.Native.Nat.{ℕ, zero, suc, _+_, _*_, _/_, _%_}
+use Prim.Native.Nat.{ℕ, zero, suc, _+_, _*_, _/_, _%_, _^_}
 use lib.ListN.{getD, replicate}
 use Rattle.laws.specs.Tables.{table, upTo}
 use Rattle.bits.specs.Bits.{bitsAt}
 use Rattle.sheet.specs.Counts.{mostChannels, mostSlots, mostCodes, mostCapacities, mostPaired, mostLogs}
-use Rattle.sheet.specs.Layout.{headWidths, widthTo, ttiWidth, encodedWidth, ratioWidth, codesWidth, logWidth, capacityWidth, channelAt, slotWidth}
+use Rattle.sheet.specs.Layout.{headWidths, widthTo, countWidth, ttiWidth, encodedWidth, ratioWidth, codesWidth, logWidth, capacityWidth, channelAt, slotWidth}
 use Rattle.sheet.specs.declared.Sheet.{Sheet}
 
 -- field k of the head, counted from 0
 abbrev pub headIn : List ℕ → ℕ → ℕ
 headIn s k = bitsAt s (widthTo headWidths k) (getD headWidths k 0)
 
--- I and T of the bytes, and their uplink bit
+-- I and T of the bytes, and their uplink bit. Of the four bits of I-1 the first stands apart, behind T
 abbrev pub channelsIn : List ℕ → ℕ
-channelsIn s = headIn s 2 + 1
+channelsIn s = 2 ^ countWidth * headIn s 6 + headIn s 2 + 1
 
 abbrev pub slotsIn : List ℕ → ℕ
 slotsIn s = headIn s 3
@@ -24,7 +24,7 @@ uplinkIn s = headIn s 4
 
 -- the bits of the head that are spare, added up: 0 where none is set
 abbrev pub sparesIn : List ℕ → ℕ
-sparesIn s = headIn s 5 + headIn s 6 + headIn s 7
+sparesIn s = headIn s 5 + headIn s 7
 
 -- TTI, E and RM of channel i of the bytes
 abbrev pub ttiIn : List ℕ → ℕ → ℕ

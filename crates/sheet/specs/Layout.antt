@@ -1,9 +1,9 @@
 -- How wide the fields of a sheet are, in bits, and where they stand: the table of document 01, 'The format sheet'.
 use mathlib.Core.List.{List, [], _∷_}
-use Prim.Native.Nat.{ℕ, zero, suc, _+_, _-_, _*_}
+use Prim.Native.Nat.{ℕ, zero, suc, _+_, _*_}
 use lib.ListN.{getD}
 
--- the head: version, mode, I-1, T, uplink, and three bits that are spare
+-- the head: version, mode, I-1 without its top bit, T, uplink, a spare bit, the top bit of I-1, a spare bit
 abbrev pub headWidths : List ℕ
 headWidths = 4 ∷ 1 ∷ 3 ∷ 4 ∷ 1 ∷ 1 ∷ 1 ∷ 1 ∷ []
 
@@ -71,9 +71,20 @@ uplinkAt = widthTo headWidths 4
 abbrev pub uplinkWidth : ℕ
 uplinkWidth = getD headWidths 4 0
 
--- the spare bits, as the code reads and writes them at once
 abbrev pub spareAt : ℕ
 spareAt = widthTo headWidths 5
 
 abbrev pub spareWidth : ℕ
-spareWidth = widthTo headWidths 8 - spareAt
+spareWidth = getD headWidths 5 0
+
+abbrev pub topAt : ℕ
+topAt = widthTo headWidths 6
+
+abbrev pub topWidth : ℕ
+topWidth = getD headWidths 6 0
+
+abbrev pub lastAt : ℕ
+lastAt = widthTo headWidths 7
+
+abbrev pub lastWidth : ℕ
+lastWidth = getD headWidths 7 0

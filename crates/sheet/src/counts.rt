@@ -6,7 +6,7 @@ use crate::layout::HEAD_WIDTH;
 use crate::layout::LOG_WIDTH;
 
 // Transport channels, slots, and physical channels (codes) of a slot.
-pub const CHANNELS: usize = 8;
+pub const CHANNELS: usize = 16;
 
 pub const SLOTS: usize = 15;
 

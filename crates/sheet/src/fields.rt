@@ -24,9 +24,12 @@ use crate::layout::HEAD_WIDTH;
 use crate::layout::LOG_WIDTH;
 use crate::layout::MODE_AT;
 use crate::layout::MODE_WIDTH;
-use crate::layout::RATIO_WIDTH;
 use crate::layout::SLOTS_AT;
 use crate::layout::SLOTS_WIDTH;
+use crate::layout::TOP_AT;
+use crate::layout::TOP_COUNTS;
+use crate::layout::TOP_WIDTH;
+use crate::layout::TTI_COUNTS;
 use crate::layout::TTI_WIDTH;
 use crate::layout::UPLINK_AT;
 use crate::layout::UPLINK_WIDTH;
@@ -45,7 +48,7 @@ pub struct Slots {
     pub caps: [u16; CAPACITIES],
 }
 
-// TTI, E and RM of n channels, 0 past them.
+// TTI, E and RM of n channels, 0 past them. A channel is three bytes: TTI and E are two, RM the third.
 fn read_channels(s: &[u8], n: usize) -> Channels
     requires { ⌜ n ≤ mostChannels ⌝ }
     ensures { λ r. ⌜ r ≡ channelsTo (now (s .entry)) n ⌝ }
@@ -58,9 +61,10 @@ fn read_channels(s: &[u8], n: usize) -> Channels
     let mut k: usize = 0;
     while k < n {
         let at = HEAD_WIDTH + CHANNEL_WIDTH * k;
-        c.tti[k] = bits::read_field(s, at, TTI_WIDTH) as u16;
-        c.e[k] = bits::read_field(s, at + TTI_WIDTH, ENCODED_WIDTH) as u16;
-        c.rm[k] = (bits::read_field(s, at + (TTI_WIDTH + ENCODED_WIDTH), RATIO_WIDTH) + 1) as u16;
+        let two = bits::read_field(s, at, TTI_WIDTH + ENCODED_WIDTH);
+        c.tti[k] = (two / TTI_COUNTS) as u16;
+        c.e[k] = (two % TTI_COUNTS) as u16;
+        c.rm[k] = (bits::read_byte(s, at / 8 + 2) + 1) as u16;
         k += 1;
     }
     c
@@ -153,9 +157,11 @@ pub fn read_fields(s: &[u8]) -> Sheet
 {
     let version = bits::read_field(s, VERSION_AT, VERSION_WIDTH) as u16;
     let mode = bits::read_field(s, MODE_AT, MODE_WIDTH) as u16;
-    let n = (bits::read_field(s, COUNT_AT, COUNT_WIDTH) + 1) as usize;
+    let low = bits::read_field(s, COUNT_AT, COUNT_WIDTH);
     let t = bits::read_field(s, SLOTS_AT, SLOTS_WIDTH) as usize;
     let up = bits::read_field(s, UPLINK_AT, UPLINK_WIDTH) as usize;
+    let top = bits::read_field(s, TOP_AT, TOP_WIDTH);
+    let n = (TOP_COUNTS * top + low + 1) as usize;
     let c = read_channels(s, n);
     let start = HEAD_WIDTH + CHANNEL_WIDTH * n;
     let r = read_slots(s, up, start, t);

@@ -1,6 +1,6 @@
 // Where the fields of a sheet stand in its bits, and how wide they are; specs/Layout.antt has the same for the definitions.
 
-// The head: version, mode, I-1, T, uplink, and three bits that are spare, which are read and written at once.
+// The head: version, mode, I-1 without its top bit, T, uplink, a spare bit, the top bit of I-1, a spare bit.
 pub const VERSION_AT: usize = 0;
 
 pub const VERSION_WIDTH: usize = 4;
@@ -13,6 +13,9 @@ pub const COUNT_AT: usize = 5;
 
 pub const COUNT_WIDTH: usize = 3;
 
+// What the top bit of I-1 is worth: 2 to the power COUNT_WIDTH.
+pub const TOP_COUNTS: u64 = 8;
+
 pub const SLOTS_AT: usize = 8;
 
 pub const SLOTS_WIDTH: usize = 4;
@@ -23,7 +26,15 @@ pub const UPLINK_WIDTH: usize = 1;
 
 pub const SPARE_AT: usize = 13;
 
-pub const SPARE_WIDTH: usize = 3;
+pub const SPARE_WIDTH: usize = 1;
+
+pub const TOP_AT: usize = 14;
+
+pub const TOP_WIDTH: usize = 1;
+
+pub const LAST_AT: usize = 15;
+
+pub const LAST_WIDTH: usize = 1;
 
 pub const HEAD_WIDTH: usize = 16;
 
@@ -31,6 +42,9 @@ pub const HEAD_WIDTH: usize = 16;
 pub const TTI_WIDTH: usize = 2;
 
 pub const ENCODED_WIDTH: usize = 14;
+
+// What a TTI is worth before an E: 2 to the power ENCODED_WIDTH.
+pub const TTI_COUNTS: u64 = 16384;
 
 pub const RATIO_WIDTH: usize = 8;
 

@@ -15,6 +15,8 @@ use crate::counts::MOST_LOG;
 use crate::counts::PAIRED;
 use crate::counts::SLOTS;
 use crate::fields::read_fields;
+use crate::layout::LAST_AT;
+use crate::layout::LAST_WIDTH;
 use crate::layout::SPARE_AT;
 use crate::layout::SPARE_WIDTH;
 use crate::none;
@@ -128,7 +130,9 @@ fn fails_fit(s: &[u8], fields: Sheet) -> bool
     if s.len() != (need + 7) / 8 {
         return true;
     }
-    if bits::read_field(s, SPARE_AT, SPARE_WIDTH) != 0 {
+    let spare = bits::read_field(s, SPARE_AT, SPARE_WIDTH);
+    let last = bits::read_field(s, LAST_AT, LAST_WIDTH);
+    if spare + last != 0 {
         return true;
     }
     if bits::read_field(s, need, 8 * s.len() - need) != 0 {

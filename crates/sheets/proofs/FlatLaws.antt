@@ -1,4 +1,4 @@
--- Laws of the row of 524 numbers: laid in parts, taken out in parts, and there and back.
+-- Laws of the row of 548 numbers: laid in parts, taken out in parts, and there and back.
 use mathlib.Core.Path.{_≡_, refl, sym, ap, ap₂, _∙_}
 use mathlib.Core.List.{List, [], _∷_, _++_, append-assoc}
 use Prim.Native.Nat.{ℕ, _+_, _*_, _/_, _%_, _≤_, _<_}

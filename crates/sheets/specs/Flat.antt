@@ -1,4 +1,4 @@
--- The fields of a sheet as 524 numbers in a row, as C has them: version, mode, I, T, uplink; TTI, E and RM of eight channels each; P of fifteen
+-- The fields of a sheet as 548 numbers in a row, as C has them: version, mode, I, T, uplink; TTI, E and RM of sixteen channels each; P of fifteen
 -- slots; of fifteen times sixteen physical channels U, and then the logarithms of their spreading factors, which the fields have for two a slot.
 use mathlib.Core.Path.{_≡_}
 use mathlib.Core.List.{List, [], _∷_, _++_}

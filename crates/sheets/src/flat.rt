@@ -1,4 +1,4 @@
-// The fields of a sheet as 524 numbers in a row, as C has them.
+// The fields of a sheet as 548 numbers in a row, as C has them.
 ghost use mathlib.Core.Path.{_≡_};
 ghost use Prim.Native.Nat.{_+_, _≤_, _<_};
 ghost use lib.ListN.{length, take, drop};
@@ -111,7 +111,7 @@ fn take_logs(flat: &[u16]) -> [u16; LOGS]
     logs
 }
 
-// Lays all fields into a row of 524.
+// Lays all fields into a row of 548.
 pub fn lay_sheet(fields: Sheet, out: &mut [u16])
     requires { ⌜ length (now out) ≡ flatCount ⌝ }
     ensures { λ _. ⌜ now (out .exit) ≡ flatOf fields ⌝ }
@@ -138,7 +138,7 @@ pub fn lay_sheet(fields: Sheet, out: &mut [u16])
     lay_caps(out, LOGS_FROM, spread_logs(logs));
 }
 
-// Takes all fields out of a row of 524.
+// Takes all fields out of a row of 548.
 pub fn take_sheet(flat: &[u16]) -> Sheet
     requires { ⌜ length (now flat) ≡ flatCount ⌝ }
     ensures { λ r. ⌜ r ≡ sheetFrom (now (flat .entry)) ⌝ }

@@ -11,12 +11,12 @@ use lib.Seq.{getD-append-add}
 use Rattle.laws.proofs.TableLaws.{table-at}
 use Rattle.bits.specs.Bits.{val, digit, field}
 use Rattle.bits.proofs.BitLaws.{val-field, field-after, digit-val}
-use Rattle.sheet.specs.Layout.{headWidths, widthTo, versionAt, versionWidth, modeAt, modeWidth, countAt, countWidth, slotsAt, slotsWidth, uplinkAt, uplinkWidth, ttiWidth, encodedWidth, ratioWidth, codesWidth, logWidth, capacityWidth, channelAt, slotWidth}
+use Rattle.sheet.specs.Layout.{headWidths, widthTo, versionAt, versionWidth, modeAt, modeWidth, countAt, countWidth, slotsAt, slotsWidth, uplinkAt, uplinkWidth, topAt, topWidth, ttiWidth, encodedWidth, ratioWidth, codesWidth, logWidth, capacityWidth, channelAt, slotWidth}
 use Rattle.sheet.specs.Fields.{ttiOf, encodedOf, ratioOf, phchsOf, capacityOf, logOf}
 use Rattle.sheet.specs.Sizes.{slotAt}
 use Rattle.sheet.specs.Range.{Ranged}
 use Rattle.sheet.specs.declared.Sheet.{Sheet}
-use Rattle.writing.specs.Written.{headValues, headTo, headBits, channelBits, codeBits, slotsBits, sheetBits}
+use Rattle.writing.specs.Written.{lowOf, topOf, headValues, headTo, headBits, channelBits, codeBits, slotsBits, sheetBits}
 use Rattle.writing.proofs.HoldLaws.{toTti, toEncoded, toLog, head-length, channel-length, tti-length, encoded-length, slots-length, codes-length, logs-length}
 
 pub record Begins (f : ℕ → ℕ) (l : List ℕ) : Type 0 where
@@ -127,14 +127,17 @@ module _ (sh : Sheet) (f : ℕ → ℕ) where
       pub read-mode : val f modeAt modeWidth ≡ sh .mode
       read-mode = read-head 1 (omega arith) (omega (arith, r .mode))
 
-      pub read-count : val f countAt countWidth ≡ sh .channels - 1
-      read-count = read-head 2 (omega arith) (omega (arith, r .few-channels))
+      pub read-count : val f countAt countWidth ≡ lowOf sh
+      read-count = read-head 2 (omega arith) (omega arith)
 
       pub read-slots : val f slotsAt slotsWidth ≡ sh .slots
       read-slots = read-head 3 (omega arith) (omega (arith, r .few-slots))
 
       pub read-uplink : val f uplinkAt uplinkWidth ≡ sh .uplink
       read-uplink = read-head 4 (omega arith) (omega (arith, r .uplink))
+
+      pub read-top : val f topAt topWidth ≡ topOf sh
+      read-top = read-head 6 (omega arith) (omega (arith, r .few-channels))
 
       pub read-spare : (k : ℕ) → k < 8 → getD (headValues sh) k 0 ≡ 0 → val f (widthTo headWidths k) (getD headWidths k 0) ≡ 0
       read-spare k l z = read-head k l (subst (λ (x : ℕ). x < 2 ^ getD headWidths k 0) (sym z) (pow-pos (getD headWidths k 0))) ∙ z

@@ -1,19 +1,18 @@
 -- Bits that are written field by field: what a store of a field holds, and how long the bits are.
 use mathlib.Core.Path.{_≡_, refl, sym, ap, _∙_, subst}
-use mathlib.Core.List.{List, [], _++_, append-assoc}
-use Prim.Native.Nat.{ℕ, zero, suc, _+_, _-_, _*_, _≤_, _<_}
+use mathlib.Core.List.{List, [], _++_}
+use Prim.Native.Nat.{ℕ, zero, suc, _+_, _-_, _*_, _/_, _%_, _^_, _≤_, _<_}
 use native.Mathlib.Numerals.{add-one}
 use native.Mathlib.Omega.{arith}
 use native.Mathlib.Decide.{decLt}
 use lib.ListN.{length, getD, replicate, List·getD-eq-default, List·getD-append}
 use lib.Seq.{paste, length-paste, getD-append-add}
-use Rattle.laws.specs.Tables.{table}
 use Rattle.laws.specs.Sums.{sumTo}
 use Rattle.laws.proofs.TableLaws.{zeros-at}
 use Rattle.bits.specs.Bits.{field}
 use Rattle.bits.proofs.BitLaws.{field-length, field-after, paste-before, paste-inside, paste-after}
 use Rattle.sheet.specs.Counts.{mostChannels, longestForm}
-use Rattle.sheet.specs.Layout.{headWidths, widthTo, versionAt, versionWidth, modeAt, modeWidth, countAt, countWidth, slotsAt, slotsWidth, uplinkAt, uplinkWidth, spareAt, spareWidth, ttiWidth, encodedWidth, ratioWidth, codesWidth, logWidth, capacityWidth, channelAt, slotWidth}
+use Rattle.sheet.specs.Layout.{headWidths, widthTo, versionAt, versionWidth, modeAt, modeWidth, countAt, countWidth, slotsAt, slotsWidth, uplinkAt, uplinkWidth, spareAt, spareWidth, topAt, topWidth, lastAt, lastWidth, ttiWidth, encodedWidth, ratioWidth, codesWidth, logWidth, capacityWidth, channelAt, slotWidth}
 use Rattle.sheet.specs.Fields.{ttiOf, encodedOf, ratioOf, phchsOf, capacityOf, logOf}
 use Rattle.sheet.specs.Sizes.{slotAt}
 use Rattle.sheet.specs.declared.Sheet.{Sheet}
@@ -140,24 +139,28 @@ module _ (sh : Sheet) where
   unfolding headTo
   head-more k fits bs h q p = holds-more bs room (headTo sh k) (widthTo headWidths k) (getD headWidths k 0) (getD (headValues sh) k 0) h (head-length k) fits q p
 
-  -- the spare bits at once are the spare bits one after the other
-  spares-put : headTo sh 5 ++ field spareWidth 0 ≡ headBits sh
-  unfolding headTo table
-  spares-put = simp append-assoc
-
-  -- the head is put
-  pub head-put : (b : List ℕ) → Holds b room [] → {v m n t u : ℕ} {b1 b2 b3 b4 b5 b6 : List ℕ} → v ≡ sh .version → m ≡ sh .mode → n ≡ sh .channels
-      → t ≡ sh .slots → u ≡ sh .uplink → b1 ≡ paste b versionAt (field versionWidth v) versionWidth → b2 ≡ paste b1 modeAt (field modeWidth m) modeWidth
-      → b3 ≡ paste b2 countAt (field countWidth (n - 1)) countWidth → b4 ≡ paste b3 slotsAt (field slotsWidth t) slotsWidth
-      → b5 ≡ paste b4 uplinkAt (field uplinkWidth u) uplinkWidth → b6 ≡ paste b5 spareAt (field spareWidth 0) spareWidth → Holds b6 room (headBits sh)
+  -- the head is put as far as T
+  pub head-put : (b : List ℕ) → Holds b room [] → {v m n t : ℕ} {b1 b2 b3 b4 : List ℕ} → v ≡ sh .version → m ≡ sh .mode → n ≡ sh .channels
+      → t ≡ sh .slots → b1 ≡ paste b versionAt (field versionWidth v) versionWidth → b2 ≡ paste b1 modeAt (field modeWidth m) modeWidth
+      → b3 ≡ paste b2 countAt (field countWidth ((n - 1) % 2 ^ countWidth)) countWidth → b4 ≡ paste b3 slotsAt (field slotsWidth t) slotsWidth
+      → Holds b4 room (headTo sh 4)
   unfolding headTo
-  head-put b h ev em en et eu p1 p2 p3 p4 p5 p6 =
+  head-put b h ev em en et p1 p2 p3 p4 =
       let h1 = head-more 0 (omega arith) b h ev p1 in
       let h2 = head-more 1 (omega arith) _ h1 em p2 in
-      let h3 = head-more 2 (omega arith) _ h2 (ap (λ (x : ℕ). x - 1) en) p3 in
-      let h4 = head-more 3 (omega arith) _ h3 et p4 in
-      let h5 = head-more 4 (omega arith) _ h4 eu p5 in
-      subst (Holds _ room) spares-put (holds-more _ room (headTo sh 5) spareAt spareWidth 0 h5 (head-length 5) (omega arith) refl p6)
+      let h3 = head-more 2 (omega arith) _ h2 (ap (λ (x : ℕ). (x - 1) % 2 ^ countWidth) en) p3 in
+      head-more 3 (omega arith) _ h3 et p4
+
+  -- and the bits behind it
+  pub flags-put : (b : List ℕ) → Holds b room (headTo sh 4) → {u n : ℕ} {b1 b2 b3 b4 : List ℕ} → u ≡ sh .uplink → n ≡ sh .channels
+      → b1 ≡ paste b uplinkAt (field uplinkWidth u) uplinkWidth → b2 ≡ paste b1 spareAt (field spareWidth 0) spareWidth
+      → b3 ≡ paste b2 topAt (field topWidth ((n - 1) / 2 ^ countWidth)) topWidth → b4 ≡ paste b3 lastAt (field lastWidth 0) lastWidth
+      → Holds b4 room (headBits sh)
+  flags-put b h eu en p1 p2 p3 p4 =
+      let h1 = head-more 4 (omega arith) b h eu p1 in
+      let h2 = head-more 5 (omega arith) _ h1 refl p2 in
+      let h3 = head-more 6 (omega arith) _ h2 (ap (λ (x : ℕ). (x - 1) / 2 ^ countWidth) en) p3 in
+      head-more 7 (omega arith) _ h3 refl p4
 
   -- the fields of channel i are put
   module _ (i : ℕ) (b : i < mostChannels) where

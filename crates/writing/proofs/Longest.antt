@@ -36,12 +36,12 @@ full-need : bytesNeeded full ≡ longestSheet
 unfolding full sumTo
 full-need = refl
 
--- "The longest has 394 bytes.": the longest that is accepted
-pub longest-is : longestSheet ≡ 394
+-- "The longest accepted sheet grows to 418 bytes"
+pub longest-is : longestSheet ≡ 418
 longest-is = refl
 
--- and the longest in form, which 13 refuses, 484
-pub form-is : longestForm ≡ 484
+-- and the longest in form, which 13 refuses, has 508: "the lister reads at most 509"
+pub form-is : longestForm ≡ 508
 form-is = refl
 
 pub full-length : length (bytesOf full) ≡ longestSheet

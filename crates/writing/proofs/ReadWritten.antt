@@ -28,10 +28,10 @@ use Rattle.writing.specs.Written.{headValues, sheetBits, bytesOf, codeTr
 use Rattle.writing.proofs.HoldLaws.{slots-length}
 use Rattle.writing.proofs.RangeLaws.{Sound, sound, writable}
 use Rattle.writing.proofs.ByteLaws.{slots-binary}
-use Rattle.writing.proofs.BeginLaws.{Begins, read-version, read-mode, read-count, read-slots, read-uplink, read-spare, read-tti, read-encoded, read-ratio, read-phchs, read-log, read-capacity}
+use Rattle.writing.proofs.BeginLaws.{Begins, read-version, read-mode, read-count, read-slots, read-uplink, read-top, read-spare, read-tti, read-encoded, read-ratio, read-phchs, read-log, read-capacity}
 use Rattle.writing.proofs.AgreeLaws.{agree-need, agree-lines, trim-agree}
 
-sheet-made : {v v' m m' c c' s s' k k' : ℕ} {a a' b b' d d' p p' u u' l l' : List ℕ} → v ≡ v' → m ≡ m' → c ≡ c' → s ≡ s' → k ≡ k' → a ≡ a' → b ≡ b'
+pub sheet-made : {v v' m m' c c' s s' k k' : ℕ} {a a' b b' d d' p p' u u' l l' : List ℕ} → v ≡ v' → m ≡ m' → c ≡ c' → s ≡ s' → k ≡ k' → a ≡ a' → b ≡ b'
     → d ≡ d' → p ≡ p' → u ≡ u' → l ≡ l'
     → _≡_ {A = Sheet}
     (record { version = v; mode = m; channels = c; slots = s; uplink = k; tti = a; e = b; rm = d; phchs = p; caps = u; logs = l })
@@ -41,7 +41,7 @@ sheet-made e1 e2 e3 e4 e5 e6 e7 e8 e9 e10 e11 = rw (e1, e2, e3, e4, e5, e6, e7, 
 -- bytes that begin with the bits of a sheet in range have its fields
 module _ (sh : Sheet) (s : List ℕ) (b : Begins (bitAt s) (sheetBits sh)) (r : Ranged sh) (one : sh .version ≡ 1) (up : beyondUplink sh ≡ false) where
   count-same : channelsIn s ≡ sh .channels
-  count-same = omega (arith, read-count sh (bitAt s) b r one, r .one)
+  count-same = omega (arith, read-count sh (bitAt s) b r one, read-top sh (bitAt s) b r one, r .one)
 
   slots-same : slotsIn s ≡ sh .slots
   slots-same = read-slots sh (bitAt s) b r one
@@ -166,7 +166,7 @@ module _ (sh : Sheet) where
           version = ap (λ (x : Sheet). x .version) fields-back ∙ trim-version ∙ w .version;
           some = λ z. w .some (sym (ap (λ (x : Sheet). x .slots) fields-back ∙ trim-slots) ∙ z);
           exact = bytes-length ∙ ap (λ (x : ℕ). (x + 7) / 8) (sym need-back);
-          spare = omega (arith, none-at 5 (omega arith) refl, none-at 6 (omega arith) refl, none-at 7 (omega arith) refl);
+          spare = omega (arith, none-at 5 (omega arith) refl, none-at 7 (omega arith) refl);
           padding = ap₂ (λ (x y : ℕ). bitsAt (bytesOf sh) x (8 * y - x)) need-back bytes-length ∙ padding-zero;
           loads =
               ap (λ (x : Sheet). firstOf (loadLines x)) fields-back ∙ ap firstOf (agree-lines (trimmed sh) sh (trim-agree sh (w .ranged)))

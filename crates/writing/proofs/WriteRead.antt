@@ -8,16 +8,16 @@ use native.Mathlib.Decide.{decLt, ℕ-discrete}
 use lib.ListN.{length, getD, List·getD-eq-default}
 use Rattle.laws.specs.Sums.{sumTo}
 use Rattle.bits.specs.Bits.{val, bitAt, packed, bitOf}
-use Rattle.bits.proofs.BitLaws.{bit-lt, packed-again, packed-same, val-none}
+use Rattle.bits.proofs.BitLaws.{bit-lt, bits-lt, packed-again, packed-same, val-none}
 use Rattle.sheet.specs.Counts.{longestSheet}
-use Rattle.sheet.specs.Layout.{headWidths, widthTo, ttiWidth, encodedWidth, ratioWidth, codesWidth, logWidth, capacityWidth, channelAt, slotWidth}
+use Rattle.sheet.specs.Layout.{headWidths, widthTo, countAt, countWidth, ttiWidth, encodedWidth, ratioWidth, codesWidth, logWidth, capacityWidth, channelAt, slotWidth}
 use Rattle.sheet.specs.Fields.{headIn, sparesIn, channelsIn, slotsIn, uplinkIn, slotFrom, phchsIn, codeLog, codeCapacity, sheetOf, ttiOf, encodedOf, ratioOf, phchsOf, capacityOf, logOf}
 use Rattle.sheet.specs.Sizes.{slotAt, bitsNeeded}
 use Rattle.sheet.specs.Numbers.{beyondUplink, readNumber}
 use Rattle.sheet.proofs.FieldLaws.{startIn, version-in, mode-in, channels-in, slots-in, uplink-in, tti-in, encoded-in, ratio-in, phchs-in, caps-in, logs-in, log-down, ranged-in}
 use Rattle.sheet.proofs.NumberLaws.{Readable, readable, loads-zero, paired-of, accepted-most}
 use Rattle.writing.specs.Numbers.{writeNumber}
-use Rattle.writing.specs.Written.{headValues, headTo, headBits, channelBits, codeBits, slotsBits, sheetBits, bytesOf}
+use Rattle.writing.specs.Written.{lowOf, topOf, headValues, headTo, headBits, channelBits, codeBits, slotsBits, sheetBits, bytesOf}
 use Rattle.writing.proofs.HoldLaws.{toTti, toEncoded, toLog, head-length, channel-length, tti-length, encoded-length, slots-length, codes-length, logs-length}
 use Rattle.writing.proofs.RangeLaws.{Sound, sound-zero, write-zero}
 use Rattle.writing.proofs.BeginLaws.{Begins, begins-more}
@@ -65,8 +65,10 @@ module _ (s : List ℕ) where
     unfolding headTo
     head-up =
         let h0 : Begins (bitAt s) [] = record { bit = λ i l. absurd (omega arith) } in
-        let h4 = head-next 3 (slots-in s) (head-next 2 (omega (arith, channels-in s)) (head-next 1 (mode-in s) (head-next 0 (version-in s) h0))) in
-        head-next 7 (omega arith) (head-next 6 (omega arith) (head-next 5 (omega arith) (head-next 4 (uplink-in s) h4)))
+        let low : lowOf (sheetOf s) ≡ headIn s 2 = omega (arith, channels-in s, bits-lt s countAt countWidth) in
+        let top : topOf (sheetOf s) ≡ headIn s 6 = omega (arith, channels-in s, bits-lt s countAt countWidth) in
+        let h4 = head-next 3 (slots-in s) (head-next 2 low (head-next 1 (mode-in s) (head-next 0 (version-in s) h0))) in
+        head-next 7 (omega arith) (head-next 6 top (head-next 5 (omega arith) (head-next 4 (uplink-in s) h4)))
 
     channels-up : (i : ℕ) → i ≤ channelsIn s → Begins (bitAt s) (channelBits (sheetOf s) i)
     unfolding channelBits

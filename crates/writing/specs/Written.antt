@@ -2,7 +2,7 @@
 use mathlib.Core.Path.{_≡_}
 use mathlib.Core.Bool.{cond}
 use mathlib.Core.List.{List, [], _∷_, _++_}
-use Prim.Native.Nat.{ℕ, zero, suc, _-_, _*_, _/_, _%_}
+use Prim.Native.Nat.{ℕ, zero, suc, _-_, _*_, _/_, _%_, _^_}
 use lib.Dec.{eqb}
 use lib.ListN.{getD, length}
 use Rattle.laws.specs.Tables.{table, upTo}
@@ -10,15 +10,22 @@ use Rattle.counters.specs.Lines.{given, answerOf}
 use Rattle.counters.specs.declared.Answer.{Answer}
 use Rattle.bits.specs.Bits.{field, packed, bitOf}
 use Rattle.sheet.specs.Counts.{mostChannels, mostSlots, mostCodes, mostCapacities, mostPaired, mostLogs}
-use Rattle.sheet.specs.Layout.{headWidths, ttiWidth, encodedWidth, ratioWidth, codesWidth, logWidth, capacityWidth}
+use Rattle.sheet.specs.Layout.{headWidths, countWidth, ttiWidth, encodedWidth, ratioWidth, codesWidth, logWidth, capacityWidth}
 use Rattle.sheet.specs.Fields.{ttiOf, encodedOf, ratioOf, phchsOf, capacityOf, logOf}
 use Rattle.sheet.specs.Sizes.{bytesNeeded}
 use Rattle.sheet.specs.declared.Sheet.{Sheet}
 use Rattle.writing.specs.Numbers.{fieldNumber, writeNumber}
 
--- what stands in the head's fields: version, mode, I-1, T, uplink, and 0 in each that is spare
+-- I-1 as it stands in the head: the bits behind its top one, and that
+abbrev pub lowOf : Sheet → ℕ
+lowOf sh = (sh .channels - 1) % 2 ^ countWidth
+
+abbrev pub topOf : Sheet → ℕ
+topOf sh = (sh .channels - 1) / 2 ^ countWidth
+
+-- what stands in the head's fields: version, mode, I-1 without its top bit, T, uplink, 0, the top bit of I-1, 0
 abbrev pub headValues : Sheet → List ℕ
-headValues sh = sh .version ∷ sh .mode ∷ (sh .channels - 1) ∷ sh .slots ∷ sh .uplink ∷ 0 ∷ 0 ∷ 0 ∷ []
+headValues sh = sh .version ∷ sh .mode ∷ lowOf sh ∷ sh .slots ∷ sh .uplink ∷ 0 ∷ topOf sh ∷ 0 ∷ []
 
 -- the first k of them
 unfoldable pub headTo : Sheet → ℕ → List ℕ

@@ -8,7 +8,7 @@ ghost use Rattle.sheet.specs.Layout.{channelAt, slotWidth};
 ghost use Rattle.sheet.specs.Fields.{phchsOf, logOf};
 ghost use Rattle.sheet.specs.Sizes.{slotAt, bytesNeeded};
 ghost use Rattle.sheet.specs.Range.{Ranged};
-ghost use Rattle.writing.specs.Written.{headBits, channelBits, slotsBits, sheetBits, bytesOf, lengthAnswer, writeAnswer, writtenTo, Holds};
+ghost use Rattle.writing.specs.Written.{headTo, headBits, channelBits, slotsBits, sheetBits, bytesOf, lengthAnswer, writeAnswer, writtenTo, Holds};
 use crate::numbers::field_number;
 use crate::numbers::write_number;
 use counters::Answer;
@@ -24,6 +24,8 @@ use sheet::layout::COUNT_AT;
 use sheet::layout::COUNT_WIDTH;
 use sheet::layout::ENCODED_WIDTH;
 use sheet::layout::HEAD_WIDTH;
+use sheet::layout::LAST_AT;
+use sheet::layout::LAST_WIDTH;
 use sheet::layout::LOG_WIDTH;
 use sheet::layout::MODE_AT;
 use sheet::layout::MODE_WIDTH;
@@ -32,6 +34,9 @@ use sheet::layout::SLOTS_AT;
 use sheet::layout::SLOTS_WIDTH;
 use sheet::layout::SPARE_AT;
 use sheet::layout::SPARE_WIDTH;
+use sheet::layout::TOP_AT;
+use sheet::layout::TOP_COUNTS;
+use sheet::layout::TOP_WIDTH;
 use sheet::layout::TTI_WIDTH;
 use sheet::layout::UPLINK_AT;
 use sheet::layout::UPLINK_WIDTH;
@@ -41,16 +46,28 @@ use sheet::sizes::bytes_needed;
 use sheet::sizes::slot_width;
 use sheet::wide;
 
+// The head as far as T.
 fn put_head(bs: &mut [u8], fields: Sheet)
     requires { ⌜ Ranged fields × Holds (now bs) (8 * longestForm) [] ⌝ }
-    ensures { λ _. ⌜ Holds (now (bs .exit)) (8 * longestForm) (headBits fields) ⌝ }
+    ensures { λ _. ⌜ Holds (now (bs .exit)) (8 * longestForm) (headTo fields 4) ⌝ }
 {
+    let low = (wide(fields.channels) - 1) % TOP_COUNTS;
     bits::put_field(bs, VERSION_AT, VERSION_WIDTH, wide(fields.version));
     bits::put_field(bs, MODE_AT, MODE_WIDTH, wide(fields.mode));
-    bits::put_field(bs, COUNT_AT, COUNT_WIDTH, wide(fields.channels) - 1);
+    bits::put_field(bs, COUNT_AT, COUNT_WIDTH, low);
     bits::put_field(bs, SLOTS_AT, SLOTS_WIDTH, wide(fields.slots));
+}
+
+// The four bits behind T.
+fn put_flags(bs: &mut [u8], fields: Sheet)
+    requires { ⌜ Ranged fields × Holds (now bs) (8 * longestForm) (headTo fields 4) ⌝ }
+    ensures { λ _. ⌜ Holds (now (bs .exit)) (8 * longestForm) (headBits fields) ⌝ }
+{
+    let top = (wide(fields.channels) - 1) / TOP_COUNTS;
     bits::put_field(bs, UPLINK_AT, UPLINK_WIDTH, wide(fields.uplink));
     bits::put_field(bs, SPARE_AT, SPARE_WIDTH, 0);
+    bits::put_field(bs, TOP_AT, TOP_WIDTH, top);
+    bits::put_field(bs, LAST_AT, LAST_WIDTH, 0);
 }
 
 fn put_channels(bs: &mut [u8], fields: Sheet)
@@ -123,6 +140,7 @@ fn put_sheet(fields: Sheet, out: &mut [u8])
 {
     let mut bs = [0u8; 8 * LONGEST_FORM];
     put_head(&mut bs, fields);
+    put_flags(&mut bs, fields);
     put_channels(&mut bs, fields);
     put_slots(&mut bs, fields);
     bits::pack(&bs, out);

@@ -1,13 +1,14 @@
-use Prim.Native.Nat.{_≤_, _-_}
+use Prim.Native.Nat.{_+_, _≤_, _-_}
 use borrow.Author.Needs.{needs}
+use Rattle.sheet.specs.Counts.{mostChannels}
 use Rattle.drawing.proofs.frame.say_layers.Statement.{statement}
 use Rattle.drawing.proofs.frame.say_layers.Tie as tie
 
 abbrev Inv-loop : tie.InvT-loop
-Inv-loop out₀ at scale looks n k₀ layer₀ out k layer = layer ≤ 12
+Inv-loop out₀ at scale looks n k₀ layer₀ out k layer = layer ≤ mostChannels + 4
 
 abbrev μ-loop : tie.MeasureT-loop
-μ-loop out₀ at scale looks n k₀ layer₀ out k layer = 12 - layer
+μ-loop out₀ at scale looks n k₀ layer₀ out k layer = mostChannels + 4 - layer
 
 loop-holds : tie.Need-loop-holds Inv-loop μ-loop
 loop-holds c = search needs

@@ -1,7 +1,9 @@
 use native.Mathlib.Omega.{arith}
 use mathlib.Core.Path.{_≡_, refl, ap, _∙_}
-use Prim.Native.Nat.{_-_, _≤_}
+use Prim.Native.Nat.{ℕ, _+_, _-_, _*_, _/_, _≤_}
 use Rattle.laws.specs.Tables.{table}
+use Rattle.bits.specs.Bits.{bitsAt}
+use Rattle.sheet.specs.Layout.{ttiWidth, encodedWidth, ratioWidth, channelAt}
 use Rattle.sheet.specs.Reading.{channelsTo}
 use Rattle.sheet.proofs.SlotLaws.{channels-more}
 use Rattle.sheet.proofs.fields.read_channels.Statement.{statement}
@@ -23,6 +25,9 @@ mul-at c = omega arith
 add-at : tie.Need-add-at Inv-loop μ-loop
 add-at c = omega arith
 
+add-read-field : tie.Need-add-read-field Inv-loop μ-loop
+add-read-field c = omega arith
+
 read-field-requires : tie.Need-read-field-requires Inv-loop μ-loop
 read-field-requires c κs = omega arith
 
@@ -35,12 +40,6 @@ mul-c c = omega arith
 element-write-c : tie.Need-element-write-c Inv-loop μ-loop
 element-write-c c = omega arith
 
-add-read-field : tie.Need-add-read-field Inv-loop μ-loop
-add-read-field c = omega arith
-
-read-field-requires-2 : tie.Need-read-field-requires-2 Inv-loop μ-loop
-read-field-requires-2 c κs = omega arith
-
 cast-c-2 : tie.Need-cast-c-2 Inv-loop μ-loop
 cast-c-2 c = omega arith
 
@@ -50,14 +49,11 @@ mul-c-2 c = omega arith
 element-write-c-2 : tie.Need-element-write-c-2 Inv-loop μ-loop
 element-write-c-2 c = omega arith
 
-add-read-field-2 : tie.Need-add-read-field-2 Inv-loop μ-loop
-add-read-field-2 c = omega arith
+add-read-byte : tie.Need-add-read-byte Inv-loop μ-loop
+add-read-byte c = omega arith
 
-add-read-field-3 : tie.Need-add-read-field-3 Inv-loop μ-loop
-add-read-field-3 c = omega arith
-
-read-field-requires-3 : tie.Need-read-field-requires-3 Inv-loop μ-loop
-read-field-requires-3 c κs = omega arith
+read-byte-requires : tie.Need-read-byte-requires Inv-loop μ-loop
+read-byte-requires c κs = omega arith
 
 add-c : tie.Need-add-c Inv-loop μ-loop
 add-c c = omega arith
@@ -79,11 +75,12 @@ loop-less c = omega arith
 
 loop-again : tie.Need-loop-again Inv-loop μ-loop
 loop-again c =
-    let a = c .before .before .before .before .before .before .args in
-    let l = c .before .before .before .before .loop in (
+    let s = c .before .before .before .before .before .args .s .now in
+    let l = c .before .before .before .loop in
+    let third : 8 * ((16 + 24 * l .k) / 8 + 2) ≡ channelAt (l .k) + (ttiWidth + encodedWidth) = omega arith in (
       omega arith,
-      channels-more (a .s .now) (l .k) (l .c) (omega arith) (l .inv .1) (c .before .before .read-field .ensures .0)
-          (c .before .read-field2 .ensures .0) (c .read-field3 .ensures .0),
+      channels-more s (l .k) (l .c) (omega arith) (l .inv .1) (c .before .read-field .ensures .0)
+          (c .read-byte .ensures .0 ∙ ap (λ (at : ℕ). bitsAt s at ratioWidth) third),
     )
 
 returns : tie.Need-returns Inv-loop μ-loop
@@ -101,18 +98,16 @@ read-channels-spec =
     loop-holds
     mul-at
     add-at
+    add-read-field
     read-field-requires
     cast-c
     mul-c
     element-write-c
-    add-read-field
-    read-field-requires-2
     cast-c-2
     mul-c-2
     element-write-c-2
-    add-read-field-2
-    add-read-field-3
-    read-field-requires-3
+    add-read-byte
+    read-byte-requires
     add-c
     cast-c-3
     mul-c-3

@@ -17,6 +17,12 @@ slice-aggregate-put-head c = search needs
 put-head-requires : tie.Need-put-head-requires
 put-head-requires c κs = (c .before .before .pre .0, holds-zeros room (length-replicate {A = ℕ} room 0))
 
+slice-aggregate-put-flags : tie.Need-slice-aggregate-put-flags
+slice-aggregate-put-flags c = search needs
+
+put-flags-requires : tie.Need-put-flags-requires
+put-flags-requires c κs = search needs
+
 slice-aggregate-put-channels : tie.Need-slice-aggregate-put-channels
 slice-aggregate-put-channels c = search needs
 
@@ -34,8 +40,8 @@ slice-aggregate-pack c = search needs
 
 pack-requires : tie.Need-pack-requires
 pack-requires c κs =
-    let a = c .before .before .before .before .before .before .before .before .before .before .before .before .args in
-    let q = c .before .before .before .before .before .before .before .before .before .before .before .before .pre in
+    let a = c .before .before .before .before .before .before .before .before .before .before .before .before .before .before .before .args in
+    let q = c .before .before .before .before .before .before .before .before .before .before .before .before .before .before .before .pre in
     let h = c .before .before .before .put-slots .ensures in
     (omega (arith, h .long, q .1, q .2), λ i. subst (λ (x : ℕ). x < 2) (sym (h .same i)) (slots-binary (a .fields) (a .fields .slots) .below i))
 
@@ -44,9 +50,9 @@ same-length c = search needs
 
 returns : tie.Need-returns
 returns c =
-    let a = c .before .before .before .before .before .before .before .before .before .before .before .before .before .before .before .args in
+    let a = c .before .before .before .before .before .before .before .before .before .before .before .before .before .before .before .before .before .before .args in
     let h = c .before .before .before .before .before .before .put-slots .ensures in
-    c .before .before .pack .ensures ∙ packed-same _ (bitOf (sheetBits (a .fields))) _ (λ i l. h .same i) ∙ ap (packed (bitOf (sheetBits (a .fields)))) (c .before .before .before .before .before .before .before .before .before .before .before .before .before .before .before .pre .1)
+    c .before .before .pack .ensures ∙ packed-same _ (bitOf (sheetBits (a .fields))) _ (λ i l. h .same i) ∙ ap (packed (bitOf (sheetBits (a .fields)))) (c .before .before .before .before .before .before .before .before .before .before .before .before .before .before .before .before .before .before .pre .1)
 
 pub put-sheet-spec : {M : Type 1} → statement M
 put-sheet-spec =
@@ -54,6 +60,8 @@ put-sheet-spec =
     (tie.spec
     slice-aggregate-put-head
     put-head-requires
+    slice-aggregate-put-flags
+    put-flags-requires
     slice-aggregate-put-channels
     put-channels-requires
     slice-aggregate-put-slots
