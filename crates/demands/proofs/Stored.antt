@@ -2,11 +2,12 @@
 -- bytes; without the uplink bit too, both are release 1's, and the frame is the one in which each slot's bits go one at a time. Both releases answer an
 -- accepted sheet of more than eight channels with 4.
 use mathlib.Core.Path.{_≡_, refl, sym, ap, ap₂, _∙_}
-use mathlib.Core.Logic.{_↔_, _≢_}
+use mathlib.Core.Logic.{_↔_, _≢_, inl, inr}
 use mathlib.Core.Bool.{Bool, false, not, _&&_}
 use mathlib.Core.List.{List, _++_, append-assoc, append-nil}
 use Prim.Native.Nat.{ℕ, zero, suc, _+_, _-_, _*_, _/_, _%_, _≤_, _<_}
 use native.Mathlib.Omega.{arith}
+use native.Mathlib.Decide.{ℕ-discrete}
 use borrow.Author.Tests.{eq-eqb}
 use lib.ListN.{length}
 use Rattle.laws.specs.Tables.{table, upTo}
@@ -33,7 +34,7 @@ use Rattle.naming.specs.Name.{slotBitAt}
 use Rattle.sending.specs.Building.{buildInto}
 use Rattle.demands.specs.Exactly.{Exactly}
 use Rattle.demands.specs.Stored.{storedI, storedT, storedSlot, storedP, storedCode, storedSheet, release1Says, release2Says, storedHead, storedChannels, storedCodes, storedSlots, storedBytes, plainFrame}
-use Rattle.demands.proofs.ExactLaws.{exactly}
+use Rattle.demands.proofs.ExactLaws.{exactly, zero-too}
 use Rattle.demands.proofs.TableLaws.{load-means}
 use Rattle.demands.proofs.StoredLaws.{storedLines, stored-means, plainLines, plain-means, refused-four}
 use Rattle.demands.proofs.ZeroLaws.{build-zero}
@@ -118,6 +119,41 @@ module _ (s : List ℕ) (top : bitsAt s 14 1 ≡ 0) where
         let sh = storedSheet 0 s in
         exactly
         (stored-means s sh (storedSlot 0 s (storedT s)) (sparesIn s) (bitsAt s 12 4) plain-spare (plain-means sh)) refl plain-number
+
+-- ---- bytes that an older release accepted
+
+-- spare bits that line 4 does not refuse are 0
+none-spare : (bits : ℕ) → ((bits ≢ 0) → ⊥) → bits ≡ 0
+none-spare bits h = by-cases (ℕ-discrete bits 0)
+  where
+    by-cases : Dec (bits ≡ 0) → bits ≡ 0
+    by-cases (yes e) = e
+    by-cases (no d) = absurd (h d)
+
+module _ (s : List ℕ) where
+  three-clear : Exactly (release2Says s) 0 → bitsAt s 13 3 ≡ 0
+  three-clear h =
+      let lines = h .1 .1 .1 .1 .1 .1 .1 .1 .1 .0 refl in
+      none-spare (bitsAt s 13 3) (λ b. lines .0 .0 .0 .0 .0 .1 (inr (inl b)))
+
+  four-clear : Exactly (release1Says s) 0 → bitsAt s 12 4 ≡ 0
+  four-clear h =
+      let lines = h .1 .1 .1 .1 .1 .1 .1 .1 .0 refl in
+      none-spare (bitsAt s 12 4) (λ b. lines .0 .0 .0 .0 .1 (inr (inl b)))
+
+  -- they are accepted still, with the fields that it read
+  pub release2-accepted : Exactly (release2Says s) 0 → (readNumber s ≡ 0) × (sheetOf s ≡ storedSheet (bitsAt s 12 1) s)
+  unfolding val
+  release2-accepted h =
+      let top : bitsAt s 14 1 ≡ 0 = omega (arith, three-clear h) in
+      (zero-too (release2Says s) h (numbers-kept s top) refl, fields-kept s top)
+
+  pub release1-accepted : Exactly (release1Says s) 0 → (readNumber s ≡ 0) × (sheetOf s ≡ storedSheet 0 s)
+  unfolding val
+  release1-accepted h =
+      let top : bitsAt s 14 1 ≡ 0 = omega (arith, four-clear h) in
+      let down : bitsAt s 12 1 ≡ 0 = omega (arith, four-clear h) in
+      (zero-too (release1Says s) h (plain-numbers s top down) refl, plain-fields s top down)
 
 -- ---- the frame of an accepted call in downlink, and the bit of its slot at a place
 
