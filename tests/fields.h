@@ -12,9 +12,8 @@ bool in_use(const uint16_t *fields, unsigned place);
 /* 15 slots of 16 PhCHs with this capacity each: with 250 just 60,000 bits. */
 void fill_slots(uint16_t *fields, uint16_t capacity);
 
-/* Writes fields that fit their widths to UMV_SHEET_FORM_MOST bytes, by the table of document 01 and the bits of
-   C-11 and C-16. Answers the sheet's bits,
-   without padding. */
+/* Writes fields that fit their widths to UMV_SHEET_FORM_MOST bytes, by the table of document 01 and the bits of C-11 and C-16.
+   Answers the sheet's bits, without padding. */
 size_t pack(const uint16_t *fields, uint8_t *sheet);
 
 #endif

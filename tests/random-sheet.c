@@ -168,8 +168,9 @@ static uint32_t kinds_of_channel(uint32_t trch)
 {
     uint64_t f, e, n, v;
     reference.channel(drawn.sheet, drawn.sheet_len, trch, &f, &e, &n, &v);
-    uint32_t kinds = (uint32_t)(trch > 8) << UPPER | (uint32_t)(e == 0) << EMPTY | (uint32_t)(v < n) << PUNCTURED | (uint32_t)(v == n && n != 0) << EXACT |
-                     (uint32_t)(v > n) << REPEATED | (uint32_t)(n != 0 && v >= 1000 * n) << MANY_TIMES;
+    uint32_t kinds = (uint32_t)(trch > 8) << UPPER | (uint32_t)(e == 0) << EMPTY | (uint32_t)(v < n) << PUNCTURED |
+                     (uint32_t)(v == n && n != 0) << EXACT | (uint32_t)(v > n) << REPEATED |
+                     (uint32_t)(n != 0 && v >= 1000 * n) << MANY_TIMES;
     if (v == n || f == 1)
         return kinds;
     uint64_t q = spacing_of(n, v);
