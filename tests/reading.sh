@@ -80,8 +80,8 @@ derive() {
         } else if ($1 == "unfolding" || $1 == name && $2 != ":") item = ""
     }
     antt && /^module / { params = $0; item = ""; next }
-    antt && !law && (/^ *(abbrev|unfoldable) / || /^ *pub record / || /^pub [^ ]+ :/) {
-        for (i = 1; $i ~ /^(abbrev|unfoldable|pub|record)$/; i++) { }
+    antt && !law && (/^ *(abbrev|unfoldable) / || /^ *pub (record|data) / || /^pub [^ ]+ :/) {
+        for (i = 1; $i ~ /^(abbrev|unfoldable|pub|record|data)$/; i++) { }
         item = FILENAME " " $i; body[item] = params
     }
     !antt && /^pub (struct|enum|const|fn|extern) / {

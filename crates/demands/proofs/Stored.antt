@@ -2,13 +2,11 @@
 -- bytes; without the uplink bit too, both are release 1's, and the frame is the one in which each slot's bits go one at a time. Both releases answer an
 -- accepted sheet of more than eight channels with 4.
 use mathlib.Core.Path.{_≡_, refl, sym, ap, ap₂, _∙_}
-use mathlib.Core.Logic.{_↔_, _≢_, inl, inr}
-use mathlib.Core.Bool.{Bool, false, not, _&&_}
+use mathlib.Core.Logic.{_↔_, _≢_, inl, inr, Dec·not-not}
 use mathlib.Core.List.{List, _++_, append-assoc, append-nil}
 use Prim.Native.Nat.{ℕ, zero, suc, _+_, _-_, _*_, _/_, _%_, _≤_, _<_}
 use native.Mathlib.Omega.{arith}
 use native.Mathlib.Decide.{ℕ-discrete}
-use borrow.Author.Tests.{eq-eqb}
 use lib.ListN.{length}
 use Rattle.laws.specs.Tables.{table, upTo}
 use Rattle.laws.proofs.TableLaws.{table-same}
@@ -19,7 +17,7 @@ use Rattle.bits.proofs.BitLaws.{bits-lt}
 use Rattle.sheet.specs.Layout.{logWidth, channelAt, slotWidth}
 use Rattle.sheet.specs.Fields.{channelsIn, slotsIn, sparesIn, slotFrom, codeCapacity, codeLog, codeIn, sheetOf, phchsOf, capacityOf, logOf}
 use Rattle.sheet.specs.Sizes.{subframesOf, slotAt, bitsNeeded}
-use Rattle.sheet.specs.Numbers.{someBeyond, beyondUplink, loadLines, readNumber}
+use Rattle.sheet.specs.Numbers.{readNumber}
 use Rattle.sheet.specs.declared.Sheet.{Sheet}
 use Rattle.sheet.proofs.FieldLaws.{version-in, channels-in, slots-in, uplink-in}
 use Rattle.writing.specs.Written.{lowOf, topOf, headTo, channelBits, codeBits, slotsBits, bytesOf}
@@ -33,10 +31,9 @@ use Rattle.frame.proofs.TurnLaws.{downlink-ones}
 use Rattle.naming.specs.Name.{slotBitAt}
 use Rattle.sending.specs.Building.{buildInto}
 use Rattle.demands.specs.Exactly.{Exactly}
-use Rattle.demands.specs.Stored.{storedI, storedT, storedSlot, storedP, storedCode, storedSheet, release1Says, release2Says, storedHead, storedChannels, storedCodes, storedSlots, storedBytes, plainFrame}
-use Rattle.demands.proofs.ExactLaws.{exactly, zero-too}
-use Rattle.demands.proofs.TableLaws.{load-means}
-use Rattle.demands.proofs.StoredLaws.{storedLines, stored-means, plainLines, plain-means, refused-four}
+use Rattle.demands.specs.Stored.{Release, release1, release2, storedI, storedT, storedSlot, storedP, storedCode, storedSheet, storedUplink, storedSpare, storedLoad, storedSays, storedHead, storedChannels, storedCodes, storedSlots, storedBytes, plainFrame}
+use Rattle.demands.proofs.ExactLaws.{zero-too, unsaid}
+use Rattle.demands.proofs.StoredLaws.{storedLines, lines-kept, stored-exactly, refused-four}
 use Rattle.demands.proofs.ZeroLaws.{build-zero}
 
 -- ---- bytes whose top bit of I-1 is 0
@@ -61,10 +58,9 @@ module _ (s : List ℕ) (top : bitsAt s 14 1 ≡ 0) where
       table-same _ _ n
       (λ m l. ap₂ (λ (x y : ℕ). upTo (w * storedT s) m (upTo x (m % w) y)) (phchs-kept (m / w)) (e (m / w) (m % w)))
 
-  -- reading them gives the fields that release 2 read
-  pub fields-kept : sheetOf s ≡ storedSheet (bitsAt s 12 1) s
+  fields-same : sheetOf s ≡ storedSheet (bitsAt s 12 1) s
   unfolding sheetOf storedSheet
-  fields-kept =
+  fields-same =
       let of : (f : ℕ → ℕ) → table (λ i. upTo (channelsIn s) i (f i)) 0 16 ≡ table (λ i. upTo (storedI s) i (f i)) 0 16 =
       λ f. ap (λ (n : ℕ). table (λ i. upTo n i (f i)) 0 16) count-kept
       in
@@ -79,81 +75,47 @@ module _ (s : List ℕ) (top : bitsAt s 14 1 ≡ 0) where
   needed : bitsNeeded (sheetOf s) ≡ storedSlot (bitsAt s 12 1) s (storedT s)
   needed = sym (slot-in s (slotsIn s) (omega arith) ∙ ap (slotAt (sheetOf s)) (sym (slots-in s))) ∙ slot-kept (storedT s)
 
-  spare-kept : (sparesIn s ≢ 0) ↔ (bitsAt s 13 3 ≢ 0)
+  spare-kept : (r : Release) → bitsAt s 12 1 ≡ storedUplink r s → (sparesIn s ≢ 0) ↔ (storedSpare r s ≢ 0)
   unfolding val
-  spare-kept = (λ h e. h (omega arith), λ h e. h (omega arith))
+  spare-kept release1 up = (λ h e. h (omega arith), λ h e. h (omega arith))
+  spare-kept release2 up = (λ h e. h (omega arith), λ h e. h (omega arith))
 
-  -- and their number is the one that it gave
-  pub numbers-kept : Exactly (release2Says s) (readNumber s)
-  numbers-kept =
-      exactly (stored-means s (storedSheet (bitsAt s 12 1) s) (storedSlot (bitsAt s 12 1) s (storedT s)) (sparesIn s) (bitsAt s 13 3) spare-kept (load-means (storedSheet (bitsAt s 12 1) s))) refl
-      (ap₂ (λ (sh : Sheet) (n : ℕ). firstOf (storedLines s sh n (sparesIn s) (loadLines sh))) fields-kept needed)
+  -- ---- and whose uplink bit is what an older release has for it
 
-  -- ---- and whose uplink bit is 0
+  module _ (r : Release) (up : bitsAt s 12 1 ≡ storedUplink r s) where
+    -- reading them gives the fields that it read
+    pub fields-kept : sheetOf s ≡ storedSheet (storedUplink r s) s
+    fields-kept = fields-same ∙ ap (λ (u : ℕ). storedSheet u s) up
 
-  module _ (down : bitsAt s 12 1 ≡ 0) where
-    -- they have the fields and the number that release 1 gave them
-    pub plain-fields : sheetOf s ≡ storedSheet 0 s
-    plain-fields = fields-kept ∙ ap (λ (u : ℕ). storedSheet u s) down
+    end-kept : bitsNeeded (sheetOf s) ≡ storedSlot (storedUplink r s) s (storedT s)
+    end-kept = needed ∙ ap (λ (u : ℕ). storedSlot u s (storedT s)) up
 
-    plain-needed : bitsNeeded (sheetOf s) ≡ storedSlot 0 s (storedT s)
-    plain-needed = needed ∙ ap (λ (u : ℕ). storedSlot u s (storedT s)) down
-
-    plain-spare : (sparesIn s ≢ 0) ↔ (bitsAt s 12 4 ≢ 0)
-    unfolding val
-    plain-spare = (λ h e. h (omega arith), λ h e. h (omega arith))
-
-    -- 13 has nothing to refuse
-    nothing-beyond : beyondUplink (sheetOf s) ≡ false
-    nothing-beyond =
-        ap (λ (b : Bool). not b && someBeyond (sheetOf s .phchs) (sheetOf s .logs) (sheetOf s .slots))
-        (eq-eqb (sheetOf s .uplink) 0 (uplink-in s ∙ down))
-
-    plain-number : readNumber s ≡ firstOf (storedLines s (storedSheet 0 s) (storedSlot 0 s (storedT s)) (sparesIn s) (plainLines (storedSheet 0 s)))
-    plain-number =
-        rw nothing-beyond
-        (ap₂ (λ (sh : Sheet) (n : ℕ). firstOf (storedLines s sh n (sparesIn s) (plainLines sh))) plain-fields plain-needed)
-
-    pub plain-numbers : Exactly (release1Says s) (readNumber s)
-    plain-numbers =
-        let sh = storedSheet 0 s in
-        exactly
-        (stored-means s sh (storedSlot 0 s (storedT s)) (sparesIn s) (bitsAt s 12 4) plain-spare (plain-means sh)) refl plain-number
+    -- and their number is the one that it gave
+    pub numbers-kept : Exactly (storedSays r s) (readNumber s)
+    numbers-kept =
+        stored-exactly r s (sparesIn s) (spare-kept r up)
+        (lines-kept r s (sheetOf s) (bitsNeeded (sheetOf s)) (sparesIn s) (uplink-in s ∙ up)
+        ∙ ap₂ (λ (sh : Sheet) (n : ℕ). firstOf (storedLines r s sh n (sparesIn s))) fields-kept end-kept)
 
 -- ---- bytes that an older release accepted
 
--- spare bits that line 4 does not refuse are 0
-none-spare : (bits : ℕ) → ((bits ≢ 0) → ⊥) → bits ≡ 0
-none-spare bits h = by-cases (ℕ-discrete bits 0)
-  where
-    by-cases : Dec (bits ≡ 0) → bits ≡ 0
-    by-cases (yes e) = e
-    by-cases (no d) = absurd (h d)
+-- where its spare bits are 0, so are those of them that were taken since
+clear : (r : Release) (s : List ℕ) → storedSpare r s ≡ 0 → (bitsAt s 14 1 ≡ 0) × (bitsAt s 12 1 ≡ storedUplink r s)
+unfolding val
+clear release1 s z = (omega (arith, z), omega (arith, z))
+clear release2 s z = (omega (arith, z), refl)
 
-module _ (s : List ℕ) where
-  three-clear : Exactly (release2Says s) 0 → bitsAt s 13 3 ≡ 0
-  three-clear h =
-      let lines = h .1 .1 .1 .1 .1 .1 .1 .1 .1 .0 refl in
-      none-spare (bitsAt s 13 3) (λ b. lines .0 .0 .0 .0 .0 .1 (inr (inl b)))
-
-  four-clear : Exactly (release1Says s) 0 → bitsAt s 12 4 ≡ 0
-  four-clear h =
-      let lines = h .1 .1 .1 .1 .1 .1 .1 .1 .0 refl in
-      none-spare (bitsAt s 12 4) (λ b. lines .0 .0 .0 .0 .1 (inr (inl b)))
+module _ (r : Release) (s : List ℕ) (accepted : Exactly (storedSays r s) 0) where
+  spare-clear : storedSpare r s ≡ 0
+  spare-clear =
+      let behind = storedLoad r (storedSheet (storedUplink r s) s) in
+      Dec·not-not (ℕ-discrete (storedSpare r s) 0) .0 (λ b. unsaid _ _ behind (accepted .1 .1 .1) (inr (inl b)))
 
   -- they are accepted still, with the fields that it read
-  pub release2-accepted : Exactly (release2Says s) 0 → (readNumber s ≡ 0) × (sheetOf s ≡ storedSheet (bitsAt s 12 1) s)
-  unfolding val
-  release2-accepted h =
-      let top : bitsAt s 14 1 ≡ 0 = omega (arith, three-clear h) in
-      (zero-too (release2Says s) h (numbers-kept s top) refl, fields-kept s top)
-
-  pub release1-accepted : Exactly (release1Says s) 0 → (readNumber s ≡ 0) × (sheetOf s ≡ storedSheet 0 s)
-  unfolding val
-  release1-accepted h =
-      let top : bitsAt s 14 1 ≡ 0 = omega (arith, four-clear h) in
-      let down : bitsAt s 12 1 ≡ 0 = omega (arith, four-clear h) in
-      (zero-too (release1Says s) h (plain-numbers s top down) refl, plain-fields s top down)
+  pub accepted-kept : (readNumber s ≡ 0) × (sheetOf s ≡ storedSheet (storedUplink r s) s)
+  accepted-kept =
+      let (top, up) = clear r s spare-clear in
+      (zero-too (storedSays r s) accepted (numbers-kept s top r up) refl, fields-kept s top r up)
 
 -- ---- the frame of an accepted call in downlink, and the bit of its slot at a place
 
@@ -182,29 +144,17 @@ module _ (s : List ℕ) (down : bitsAt s 12 1 ≡ 0) where
 
 module _ (s : List ℕ) (accepted : readNumber s ≡ 0) (many : 8 < sheetOf s .channels) where
   -- the top bit of I-1 is one of those that were spare
-  three-set : bitsAt s 13 3 ≢ 0
+  spare-set : (r : Release) → storedSpare r s ≢ 0
   unfolding val
-  three-set e = absurd (omega (arith, channels-in s, bits-lt s 5 3))
+  spare-set release1 e = absurd (omega (arith, channels-in s, bits-lt s 5 3))
+  spare-set release2 e = absurd (omega (arith, channels-in s, bits-lt s 5 3))
 
-  four-set : bitsAt s 12 4 ≢ 0
-  unfolding val
-  four-set e = three-set (omega arith)
-
-  pub release2-refuses : Exactly (release2Says s) 4
+  pub larger-refused : (r : Release) → Exactly (storedSays r s) 4
   unfolding storedSheet
-  release2-refuses =
-      let u = bitsAt s 12 1 in
-      let sh = storedSheet u s in
-      exactly (stored-means s sh (storedSlot u s (storedT s)) (bitsAt s 13 3) (bitsAt s 13 3) (λ h. h, λ h. h) (load-means sh)) refl
-      (refused-four s accepted (bitsAt s 13 3) three-set sh (sym (version-in s)) (sym (slots-in s)) (storedSlot u s (storedT s)) (loadLines sh))
-
-  pub release1-refuses : Exactly (release1Says s) 4
-  unfolding storedSheet
-  release1-refuses =
-      let sh = storedSheet 0 s in
-      exactly
-      (stored-means s sh (storedSlot 0 s (storedT s)) (bitsAt s 12 4) (bitsAt s 12 4) (λ h. h, λ h. h) (plain-means sh)) refl
-      (refused-four s accepted (bitsAt s 12 4) four-set sh (sym (version-in s)) (sym (slots-in s)) (storedSlot 0 s (storedT s)) (plainLines sh))
+  larger-refused r =
+      let u = storedUplink r s in
+      stored-exactly r s (storedSpare r s) (λ h. h, λ h. h)
+      (refused-four r s accepted (storedSpare r s) (spare-set r) (storedSheet u s) (sym (version-in s)) (sym (slots-in s)) (storedSlot u s (storedT s)))
 
 -- ---- the bytes of fields of at most eight channels
 
@@ -233,11 +183,8 @@ module _ (sh : Sheet) (few : sh .channels ≤ 8) where
       slot-bytes t (slotsBits sh t) (phchsOf sh t)
       ∙ ap (λ (l : List ℕ). l ++ (field 4 (phchsOf sh t - 1) ++ storedCodes (sh .uplink) sh t (phchsOf sh t))) (slots-kept t)
 
-  -- they are those that release 2 wrote, and in downlink release 1
+  -- they are those that release 2 wrote, and where uplink is 0 release 1
   pub bytes-kept : bytesOf sh ≡ storedBytes (sh .uplink) sh
   bytes-kept =
       ap₂ (λ (l : List ℕ) (n : ℕ). packed (bitOf l) ((n + 7) / 8)) (slots-kept (sh .slots))
       (sym (slots-length sh (sh .slots)) ∙ ap length (slots-kept (sh .slots)))
-
-  pub plain-bytes : sh .uplink ≡ 0 → bytesOf sh ≡ storedBytes 0 sh
-  plain-bytes down = bytes-kept ∙ ap (λ (u : ℕ). storedBytes u sh) down

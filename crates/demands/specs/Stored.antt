@@ -1,7 +1,5 @@
 -- What stored sheets keep: the sheet as releases 1 and 2 had it, with at most eight channels and its numbers of bits written out, and step 9 with one bit
 -- at a time. Release 1 is document 01's and knows no uplink; release 2 is C-11's. `u` is 1 where a logarithm stands before each U, which release 1 has not.
-use mathlib.Core.Path.{_≡_}
-use mathlib.Core.Logic.{_⊎_, _≢_}
 use mathlib.Core.List.{List, [], _∷_, _++_}
 use Prim.Native.Nat.{ℕ, zero, suc, _+_, _-_, _*_, _/_, _%_, _<_}
 use lib.ListN.{length}
@@ -13,7 +11,7 @@ use Rattle.sheet.specs.declared.Sheet.{Sheet}
 use Rattle.mapping.specs.Mapping.{ones, slotOf}
 use Rattle.frame.specs.Frame.{capsOf, inSlots, slotBits, multiplexedBits}
 use Rattle.demands.specs.Exactly.{Saying, says}
-use Rattle.demands.specs.Table.{NoCapacity, NoBits, loadSays}
+use Rattle.demands.specs.Table.{NoCapacity, NoBits, loadSays, bytesSays}
 
 -- ---- the fields of its bytes
 
@@ -57,31 +55,34 @@ storedSheet u s =
 
 -- ---- its numbers
 
--- 1 to 4 of bytes that have these fields, which end at bit `end`, and these spare bits; then the lines behind
-abbrev pub storedSays : List ℕ → Sheet → ℕ → ℕ → List Saying → List Saying
-storedSays s sh end spare behind =
-    says 1 (length s < 2) ∷
-    says 2 (sh .version ≢ 1) ∷
-    says 3 (sh .slots ≡ 0) ∷
-    says 4 ((length s ≢ (end + 7) / 8) ⊎ ((spare ≢ 0) ⊎ (bitsAt s end (8 * length s - end) ≢ 0))) ∷
-    behind
+-- which of the two has read the bytes
+pub data Release : Type 0 where
+  release1 release2 : Release
 
--- release 1: four spare bits, and no line of 13
-abbrev pub release1Says : List ℕ → List Saying
-release1Says s =
-    let sh = storedSheet 0 s in
-    storedSays s sh (storedSlot 0 s (storedT s)) (bitsAt s 12 4)
-    (says 5 (NoCapacity sh) ∷
+-- its uplink bit: release 1 has none
+abbrev pub storedUplink : Release → List ℕ → ℕ
+storedUplink release1 s = 0
+storedUplink release2 s = bitsAt s 12 1
+
+-- its spare bits: four behind T, of which release 2 took the first for uplink
+abbrev pub storedSpare : Release → List ℕ → ℕ
+storedSpare release1 s = bitsAt s 12 4
+storedSpare release2 s = bitsAt s 13 3
+
+-- its lines after 4: release 1 has none of 13
+abbrev pub storedLoad : Release → Sheet → List Saying
+storedLoad release1 sh =
+    says 5 (NoCapacity sh) ∷
     says 6 (60000 < equalisedAll sh) ∷
     says 7 (60000 < capacityAll sh) ∷
     says 8 (NoBits sh) ∷
-    [])
+    []
+storedLoad release2 sh = loadSays sh
 
--- release 2: the first of them is the uplink bit
-abbrev pub release2Says : List ℕ → List Saying
-release2Says s =
-    let u = bitsAt s 12 1 in
-    storedSays s (storedSheet u s) (storedSlot u s (storedT s)) (bitsAt s 13 3) (loadSays (storedSheet u s))
+abbrev pub storedSays : Release → List ℕ → List Saying
+storedSays r s =
+    let u = storedUplink r s in
+    bytesSays s (storedSheet u s) (storedSlot u s (storedT s)) (storedSpare r s) (storedLoad r (storedSheet u s))
 
 -- ---- its bytes, of fields: one after the other, and zeros to a whole byte
 
