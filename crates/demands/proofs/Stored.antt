@@ -7,7 +7,7 @@ use mathlib.Core.List.{List, _++_, append-assoc, append-nil}
 use Prim.Native.Nat.{ℕ, zero, suc, _+_, _-_, _*_, _/_, _%_, _≤_, _<_}
 use native.Mathlib.Omega.{arith}
 use native.Mathlib.Decide.{ℕ-discrete}
-use lib.ListN.{length}
+use lib.ListN.{getD, length}
 use Rattle.laws.specs.Tables.{table, upTo}
 use Rattle.laws.proofs.TableLaws.{table-same}
 use Rattle.laws.proofs.RowLaws.{rows-same}
@@ -23,7 +23,7 @@ use Rattle.sheet.proofs.FieldLaws.{version-in, channels-in, slots-in, uplink-in
 use Rattle.writing.specs.Written.{lowOf, topOf, headTo, channelBits, codeBits, slotsBits, bytesOf}
 use Rattle.writing.proofs.HoldLaws.{slots-length}
 use Rattle.writing.proofs.ReadWritten.{sheet-made}
-use Rattle.writing.proofs.WriteRead.{slot-in}
+use Rattle.writing.proofs.WriteRead.{slot-in, written-again}
 use Rattle.pattern.specs.Pattern.{asIs}
 use Rattle.mapping.specs.Mapping.{numberOf, filledAs, ones, slotOf}
 use Rattle.frame.specs.Frame.{capsOf, slotBits, slotMapped, multiplexed, multiplexedBits, bitsOf, spread, frameOf, bitFrame}
@@ -116,6 +116,10 @@ module _ (r : Release) (s : List ℕ) (accepted : Exactly (storedSays r s) 0) wh
   accepted-kept =
       let (top, up) = clear r s spare-clear in
       (zero-too (storedSays r s) accepted (numbers-kept s top r up) refl, fields-kept s top r up)
+
+  -- and these are written back to the same bytes
+  pub written-back : ((i : ℕ) → getD s i 0 < 256) → bytesOf (sheetOf s) ≡ s
+  written-back bytes = written-again s bytes (accepted-kept .0)
 
 -- ---- the frame of an accepted call in downlink, and the bit of its slot at a place
 
