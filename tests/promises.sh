@@ -38,7 +38,7 @@ for paper in docs/PROMISES.md docs/READING.md; do
         file) [[ -f $what ]] || wrong "$paper names $what, which is not there" ;;
         bare) wrong "$paper names $what without its path" ;;
         edit) [[ ! -d crates/${what%/*} || -f crates/${what%/*}/must-fail/${what#*/}.edit || -d crates/$what ]] || wrong "$paper: no edit $what" ;;
-        name) [[ ! -f $what ]] || grep -Eq "^ *((abbrev|unfoldable|record|pub|extern \"C\"|fn|struct|enum|const) )*$name( .*)?( :|\(|<| \{|:)" "$what" ||
+        name) [[ ! -f $what ]] || grep -Eq "^ *((abbrev|unfoldable|record|data|pub|extern \"C\"|fn|struct|enum|const) )*$name( .*)?( :|\(|<| \{|:)" "$what" ||
             wrong "$paper: $what does not define $name" ;;
         esac
     done <"$room/cited"
