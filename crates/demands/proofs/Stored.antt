@@ -15,11 +15,11 @@ use Rattle.counters.specs.Lines.{firstOf}
 use Rattle.bits.specs.Bits.{val, bitsAt, field, packed, bitOf}
 use Rattle.bits.proofs.BitLaws.{bits-lt}
 use Rattle.sheet.specs.Layout.{logWidth, channelAt, slotWidth}
-use Rattle.sheet.specs.Fields.{channelsIn, slotsIn, sparesIn, slotFrom, codeCapacity, codeLog, codeIn, sheetOf, phchsOf, capacityOf, logOf}
+use Rattle.sheet.specs.Fields.{channelsIn, slotsIn, sparesIn, slotFrom, codeCapacity, codeLog, codeIn, sheetOf, phchsOf, capacityOf}
 use Rattle.sheet.specs.Sizes.{subframesOf, slotAt, bitsNeeded}
 use Rattle.sheet.specs.Numbers.{readNumber}
 use Rattle.sheet.specs.declared.Sheet.{Sheet}
-use Rattle.sheet.proofs.FieldLaws.{version-in, channels-in, slots-in, uplink-in}
+use Rattle.sheet.proofs.FieldLaws.{channels-in, slots-in, uplink-in}
 use Rattle.writing.specs.Written.{lowOf, topOf, headTo, channelBits, codeBits, slotsBits, bytesOf}
 use Rattle.writing.proofs.HoldLaws.{slots-length}
 use Rattle.writing.proofs.ReadWritten.{sheet-made}
@@ -154,11 +154,7 @@ module _ (s : List ℕ) (accepted : readNumber s ≡ 0) (many : 8 < sheetOf s .c
   spare-set release2 e = absurd (omega (arith, channels-in s, bits-lt s 5 3))
 
   pub larger-refused : (r : Release) → Exactly (storedSays r s) 4
-  unfolding storedSheet
-  larger-refused r =
-      let u = storedUplink r s in
-      stored-exactly r s (storedSpare r s) (λ h. h, λ h. h)
-      (refused-four r s accepted (storedSpare r s) (spare-set r) (storedSheet u s) (sym (version-in s)) (sym (slots-in s)) (storedSlot u s (storedT s)))
+  larger-refused r = refused-four r s accepted (spare-set r)
 
 -- ---- the bytes of fields of at most eight channels
 

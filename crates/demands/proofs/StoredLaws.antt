@@ -1,7 +1,7 @@
 -- The lines of a stored sheet as tests, and that they say what the table of its release says.
 use mathlib.Core.Path.{_≡_, refl, sym, ap, _∙_}
 use mathlib.Core.Logic.{_↔_, _≢_}
-use mathlib.Core.Bool.{Bool, true, false, not, _&&_, _||_, cond}
+use mathlib.Core.Bool.{Bool, true, false, not, _&&_, _||_}
 use mathlib.Core.List.{List, [], _∷_}
 use Prim.Native.Nat.{ℕ, _+_, _-_, _*_, _/_}
 use borrow.Author.Tests.{eq-eqb, ne-eqb}
@@ -12,10 +12,10 @@ use Rattle.counters.specs.Lines.{Line, line, firstOf}
 use Rattle.counters.proofs.LineLaws.{here, past}
 use Rattle.bits.specs.Bits.{bitsAt}
 use Rattle.sheet.specs.Counts.{mostBits}
-use Rattle.sheet.specs.Fields.{sheetOf}
 use Rattle.sheet.specs.Sizes.{equalisedAll, capacityAll}
 use Rattle.sheet.specs.Numbers.{emptyPlace, someBeyond, beyondUplink, silent, loadLines, readNumber}
 use Rattle.sheet.specs.declared.Sheet.{Sheet}
+use Rattle.sheet.proofs.FieldLaws.{version-in, slots-in}
 use Rattle.sheet.proofs.NumberLaws.{readable}
 use Rattle.demands.specs.Exactly.{Exactly}
 use Rattle.demands.specs.Stored.{Release, release1, release2, storedT, storedSlot, storedSheet, storedUplink, storedSpare, storedLoad, storedSays}
@@ -68,14 +68,19 @@ stored-exactly r s spare i e =
     let end = storedSlot u s (storedT s) in
     exactly (bytes-means s sh end spare (storedSpare r s) i (behind-means r sh)) (numbers-apart r s sh end spare) e
 
--- bytes that are accepted now, of which bits that were spare are not 0: whatever the length and the padding were taken for, and the lines after 4
-pub refused-four : (r : Release) (s : List ℕ) → readNumber s ≡ 0 → (bits : ℕ) → bits ≢ 0 → (sh : Sheet) → sh .version ≡ sheetOf s .version
-    → sh .slots ≡ sheetOf s .slots → (end : ℕ) → 4 ≡ firstOf (storedLines r s sh end bits)
-refused-four r s accepted bits h sh v t end =
+-- bytes that are accepted now, of which bits that were spare are not 0: whatever their length and their padding were taken for
+pub refused-four : (r : Release) (s : List ℕ) → readNumber s ≡ 0 → storedSpare r s ≢ 0 → Exactly (storedSays r s) 4
+unfolding storedSheet
+refused-four r s accepted h =
     let ok = readable s accepted in
+    let u = storedUplink r s in
+    let sh = storedSheet u s in
+    let end = storedSlot u s (storedT s) in
     let long = not (eqb (length s) ((end + 7) / 8)) in
+    let spare = not (eqb (storedSpare r s) 0) in
     let padded = not (eqb (bitsAt s end (8 * length s - end)) 0) in
-    past (ltb (length s) 2) 1 _ (ok .long)
-    (past (not (eqb (sh .version) 1)) 2 _ (ap not (eq-eqb (sh .version) 1 (v ∙ ok .version)))
-    (past (eqb (sh .slots) 0) 3 _ (ne-eqb (sh .slots) 0 (λ z. ok .some (sym t ∙ z)))
-    (here (long || (not (eqb bits 0) || padded)) 4 (firstOf (behindLines r sh)) (sym (or-second long (not (eqb bits 0)) padded (ap not (ne-eqb bits 0 h)))))))
+    stored-exactly r s (storedSpare r s) (λ e. e, λ e. e)
+    (past (ltb (length s) 2) 1 _ (ok .long)
+    (past (not (eqb (sh .version) 1)) 2 _ (ap not (eq-eqb (sh .version) 1 (sym (version-in s) ∙ ok .version)))
+    (past (eqb (sh .slots) 0) 3 _ (ne-eqb (sh .slots) 0 (λ z. ok .some (slots-in s ∙ z)))
+    (here (long || (spare || padded)) 4 (firstOf (behindLines r sh)) (sym (or-second long spare padded (ap not (ne-eqb (storedSpare r s) 0 h))))))))
