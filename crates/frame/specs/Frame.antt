@@ -66,6 +66,18 @@ slotShare sh t xs = take (subframesOf sh * slotCapacity sh t) (drop (subframesOf
 unfoldable pub sharePart : {A : Type 0} → Sheet → ℕ → ℕ → List A → List A
 sharePart sh h t ys = take (slotCapacity sh t) (drop (h * slotCapacity sh t) ys)
 
+-- where b is where a slot of c places begins in its sub-frame, which has w: where its bits of sub-frame h stand among the interleaved ones of k
+-- sub-frames. Mode 0: in the frame's order; mode 1: in its share
+abbrev pub bitsFrom : ℕ → ℕ → ℕ → ℕ → ℕ → ℕ → ℕ
+bitsFrom mode k h w b c = cond (eqb mode 0) (h * w + b) (k * b + h * c)
+
+unfoldable pub bitsStart : Sheet → ℕ → ℕ → ℕ
+bitsStart sh h t = bitsFrom (sh .mode) (subframesOf sh) h (placesAll sh) (slotStart sh t) (slotCapacity sh t)
+
+-- the bits themselves
+unfoldable pub slotPiece : {A : Type 0} → Sheet → ℕ → ℕ → List A → List A
+slotPiece sh h t xs = take (slotCapacity sh t) (drop (bitsStart sh h t) xs)
+
 -- the frame: sub-frame after sub-frame, and in each slot after slot
 abbrev pub inSlots : {A : Type 0} → Sheet → (ℕ → ℕ → List A) → List A
 inSlots sh g = inRows g (subframesOf sh) (sh .slots)

@@ -1,10 +1,11 @@
 // Steps 8 and 9: the multiplexed bits interleaved, and mapped slot after slot.
 ghost use mathlib.Core.Path.{_≡_};
-ghost use Prim.Native.Nat.{_<_};
+ghost use Prim.Native.Nat.{_-_, _≤_, _<_};
 ghost use lib.ListN.{length};
+ghost use Rattle.sheet.specs.Counts.{mostSubframes, mostBits};
 ghost use Rattle.sheet.specs.Sizes.{capacityAll};
 ghost use Rattle.sheet.specs.Range.{Accepted};
-ghost use Rattle.frame.specs.Frame.{interleavedSlots, interleavedBits, mappedSlots, spread};
+ghost use Rattle.frame.specs.Frame.{bitsFrom, interleavedSlots, interleavedBits, mappedSlots, spread};
 ghost use Rattle.frame.specs.Slots.{Spanned, Spans, RunsAt};
 use mapping::Runs;
 use mapping::runs_of;
@@ -47,6 +48,17 @@ pub fn span_of<'a>(
         end,
         next,
     }
+}
+
+// Where a slot's bits of sub-frame h stand among the interleaved ones of k sub-frames, which have w places each; the slot's are from a to e.
+pub fn bits_start(mode: u16, k: usize, h: usize, w: usize, a: usize, e: usize) -> usize
+    requires { ⌜ (k ≤ mostSubframes) × (h < k) × (w ≤ mostBits) × (a ≤ e) × (e ≤ w) ⌝ }
+    ensures { λ r. ⌜ r ≡ bitsFrom mode k h w a (e - a) ⌝ }
+{
+    if mode == 0 {
+        return h * w + a;
+    }
+    k * a + h * (e - a)
 }
 
 // How many bits each physical channel of slot t takes at its turn.

@@ -10,7 +10,7 @@ use borrow.Author.Tests.{eq-eqb, ne-eqb}
 use lib.Pow.{pow-mono, pow-pos}
 use Rattle.laws.specs.Sums.{anyTo}
 use Rattle.laws.proofs.SumLaws.{sum-most}
-use Rattle.sheet.specs.Counts.{mostSlots, mostCodes, mostTti, mostFrames, mostNeeded, longestForm}
+use Rattle.sheet.specs.Counts.{mostSlots, mostCodes, mostSubframes, mostTti, mostFrames, mostNeeded, longestForm}
 use Rattle.sheet.specs.Layout.{slotWidth}
 use Rattle.sheet.specs.Fields.{phchsOf}
 use Rattle.sheet.specs.Sizes.{framesIn, segmentIn, slotCapacity, placesAll, subframesOf, capacityAll, bitsNeeded, bytesNeeded}
@@ -56,6 +56,21 @@ codes-few sh n r e = (omega (arith, r .few-slots), λ t l. r .phch16 t (omega ar
 
 pub load-is : (sh : Sheet) (n : ℕ) (load : Load) → n ≡ sh .slots → load ≡ wholeLoad (sh .phchs) (sh .caps) n → load ≡ loadOf sh
 load-is sh n load e h = h ∙ ap (wholeLoad (sh .phchs) (sh .caps)) e
+
+-- the sub-frames are 1 or 2, and D has the places of one for each
+pub some-subframe : (sh : Sheet) → 0 < subframesOf sh
+unfolding subframesOf
+some-subframe sh = omega arith
+
+pub few-subframes : (sh : Sheet) → Ranged sh → subframesOf sh ≤ mostSubframes
+unfolding subframesOf
+few-subframes sh r = omega arith
+
+pub one-each : (sh : Sheet) {d : ℕ} → subframesOf sh ≡ 1 → d ≡ capacityAll sh → d ≡ placesAll sh
+one-each sh e f = f ∙ ap (λ (k : ℕ). k * placesAll sh) e ∙ one-mul (placesAll sh)
+
+pub half-each : (sh : Sheet) {d : ℕ} → subframesOf sh ≡ 2 → d ≡ capacityAll sh → d / 2 ≡ placesAll sh
+half-each sh {d} e f = let g : d ≡ 2 * placesAll sh = f ∙ ap (λ (k : ℕ). k * placesAll sh) e in omega (arith, g)
 
 -- a frame has one sub-frame, so that D is the sum of all capacities
 pub one-subframe : (sh : Sheet) → subframesOf sh ≡ 1

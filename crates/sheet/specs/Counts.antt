@@ -15,6 +15,10 @@ mostCodes = 16
 abbrev pub mostCapacities : ℕ
 mostCapacities = mostSlots * mostCodes
 
+-- sub-frames of a frame
+abbrev pub mostSubframes : ℕ
+mostSubframes = 2
+
 -- physical channels of an uplink slot
 abbrev pub mostPaired : ℕ
 mostPaired = 2

@@ -3,9 +3,9 @@ ghost use mathlib.Core.Path.{_≡_};
 ghost use mathlib.Core.Bool.{_||_};
 ghost use Prim.Native.Nat.{ℕ, _+_, _*_, _≤_, _<_};
 ghost use lib.ListN.{getD};
-ghost use Rattle.sheet.specs.Counts.{mostChannels, mostSlots, mostCodes, mostCapacities, mostTti, mostFrames, mostNeeded, longestForm};
+ghost use Rattle.sheet.specs.Counts.{mostChannels, mostSlots, mostCodes, mostCapacities, mostSubframes, mostTti, mostFrames, mostNeeded, longestForm};
 ghost use Rattle.sheet.specs.Layout.{slotWidth};
-ghost use Rattle.sheet.specs.Sizes.{framesIn, segmentIn, encodedAll, equalisedAll, bitsNeeded, bytesNeeded};
+ghost use Rattle.sheet.specs.Sizes.{framesIn, segmentIn, encodedAll, equalisedAll, placesAll, subframesOf, capacityAll, bitsNeeded, bytesNeeded};
 ghost use Rattle.sheet.specs.Numbers.{slotLoad, wholeLoad};
 ghost use Rattle.sheet.specs.Range.{Ranged};
 use crate::Sheet;
@@ -130,6 +130,25 @@ pub fn whole_load<'a>(phchs: &'a [u16; SLOTS], caps: &'a [u16; CAPACITIES], n: u
         t += 1;
     }
     Load { empty, sum }
+}
+
+// The sub-frames of a frame.
+pub fn subframes(fields: Sheet) -> usize
+    requires { ⌜ Ranged fields ⌝ }
+    ensures { λ r. ⌜ (r ≡ subframesOf fields) × (0 < r) × (r ≤ mostSubframes) ⌝ }
+{
+    1
+}
+
+// The places of a sub-frame, d being those of the frame.
+pub fn subframe_places(fields: Sheet, d: usize) -> usize
+    requires { ⌜ Ranged fields × (d ≡ capacityAll fields) ⌝ }
+    ensures { λ r. ⌜ r ≡ placesAll fields ⌝ }
+{
+    if subframes(fields) == 1 {
+        return d;
+    }
+    d / 2
 }
 
 // The bits of a slot of p physical channels.
