@@ -3,8 +3,8 @@
  *
  * IMPLEMENTATION is library or reference; CALL is build, take, heard, link, name or channel; FRAME (244, 2440, 54000, 54000x15; 2440c8
  * and 2440c16, with the number of channels behind the c; in uplink 8296u1:16, 8296u16:1, 2196u1:2, 2928u1:1, with the runs of the two
- * codes behind the u), MODE (0, 1) and MATCHING
- * (puncturing, repetition) choose the sheet. A name is asked for the place with this INDEX in the frame, from 0.
+ * codes behind the u; of 1.28 Mcps, with an h for its two halves, 176h, 19712hx16, 8448hu1, 5984hu1:16, 1056hu1:1), MODE (0, 1) and
+ * MATCHING (puncturing, repetition) choose the sheet. A name is asked for the place with this INDEX in the frame, from 0.
  */
 #include <stdio.h>
 #include <stdlib.h>
@@ -31,34 +31,47 @@ struct row {
     uint16_t phchs[16];   /* of each slot; they end at the first 0 */
     uint16_t capacity;    /* of every PhCH in downlink */
     struct code codes[2]; /* of every slot in uplink */
+    uint16_t lcr;         /* 1 for 1.28 Mcps: all slots twice */
 };
 
 /* Channels of each TTI, of n bits a frame. */
 #define EACH_TTI(n) {0, (n), 200}, {1, 2 * (n), 190}, {2, 4 * (n), 210}, {3, 8 * (n), 195}
 
 /* One code of spreading factor 16; ten of them in three slots; a carrier with one code of spreading factor 1 in each of
-   its 15 slots; one with 15 codes in each. Uplink slots of two codes: spreading factors 16 and 1, 1 and 16, 16 and 8, 8 and 8. */
+   its 15 slots; one with 15 codes in each. Uplink slots of two codes: spreading factors 16 and 1, 1 and 16, 16 and 8, 8 and 8.
+   Of 1.28 Mcps: one code of spreading factor 16; a carrier with 16 of them in each of its 7 slots; uplink slots of one code of
+   spreading factor 1, of two of 16 and 1, and of two of 16. */
 static const struct row rows[] = {
-    {"244", "puncturing", {{1, 600, 200}}, {1}, 244, {{0}}},
-    {"244", "repetition", {{1, 400, 200}}, {1}, 244, {{0}}},
-    {"2440", "puncturing", {{0, 1200, 180}, {1, 2400, 200}, {2, 2400, 190}}, {4, 3, 3}, 244, {{0}}},
-    {"2440", "repetition", {{0, 800, 180}, {1, 1600, 200}, {2, 1600, 190}}, {4, 3, 3}, 244, {{0}}},
-    {"2440c8", "puncturing", {EACH_TTI(376), EACH_TTI(376)}, {4, 3, 3}, 244, {{0}}},
-    {"2440c8", "repetition", {EACH_TTI(250), EACH_TTI(250)}, {4, 3, 3}, 244, {{0}}},
-    {"2440c16", "puncturing", {EACH_TTI(188), EACH_TTI(188), EACH_TTI(188), EACH_TTI(188)}, {4, 3, 3}, 244, {{0}}},
-    {"2440c16", "repetition", {EACH_TTI(125), EACH_TTI(125), EACH_TTI(125), EACH_TTI(125)}, {4, 3, 3}, 244, {{0}}},
-    {"8296u1:16", "puncturing", {{0, 5400, 200}, {1, 8000, 190}}, {2, 2}, 0, {{244, 4}, {3904, 0}}},
-    {"8296u1:16", "repetition", {{0, 4000, 200}, {1, 6600, 190}}, {2, 2}, 0, {{244, 4}, {3904, 0}}},
-    {"8296u16:1", "puncturing", {{0, 5400, 200}, {1, 8000, 190}}, {2, 2}, 0, {{3904, 0}, {244, 4}}},
-    {"8296u16:1", "repetition", {{0, 4000, 200}, {1, 6600, 190}}, {2, 2}, 0, {{3904, 0}, {244, 4}}},
-    {"2196u1:2", "puncturing", {{0, 1400, 200}, {1, 2200, 190}}, {2, 2, 2}, 0, {{244, 4}, {488, 3}}},
-    {"2196u1:2", "repetition", {{0, 1000, 200}, {1, 1600, 190}}, {2, 2, 2}, 0, {{244, 4}, {488, 3}}},
-    {"2928u1:1", "puncturing", {{0, 1800, 200}, {1, 3000, 190}}, {2, 2, 2}, 0, {{488, 3}, {488, 3}}},
-    {"2928u1:1", "repetition", {{0, 1400, 200}, {1, 2200, 190}}, {2, 2, 2}, 0, {{488, 3}, {488, 3}}},
-    {"54000", "puncturing", {{0, 14500, 200}, {0, 14500, 204}, {0, 14500, 196}, {0, 14500, 200}, {1, 1600, 200}}, {1, 1, 1, 1, 1, 1, 1, 1, 1, 1, 1, 1, 1, 1, 1}, 3600, {{0}}},
-    {"54000", "repetition", {{0, 13000, 200}, {0, 13000, 190}, {0, 13000, 210}, {1, 8000, 200}, {2, 8000, 200}}, {1, 1, 1, 1, 1, 1, 1, 1, 1, 1, 1, 1, 1, 1, 1}, 3600, {{0}}},
-    {"54000x15", "puncturing", {{0, 14500, 200}, {0, 14500, 204}, {0, 14500, 196}, {0, 14500, 200}, {1, 1600, 200}}, {15, 15, 15, 15, 15, 15, 15, 15, 15, 15, 15, 15, 15, 15, 15}, 240, {{0}}},
-    {"54000x15", "repetition", {{0, 13000, 200}, {0, 13000, 190}, {0, 13000, 210}, {1, 8000, 200}, {2, 8000, 200}}, {15, 15, 15, 15, 15, 15, 15, 15, 15, 15, 15, 15, 15, 15, 15}, 240, {{0}}},
+    {"244", "puncturing", {{1, 600, 200}}, {1}, 244, {{0}}, 0},
+    {"244", "repetition", {{1, 400, 200}}, {1}, 244, {{0}}, 0},
+    {"2440", "puncturing", {{0, 1200, 180}, {1, 2400, 200}, {2, 2400, 190}}, {4, 3, 3}, 244, {{0}}, 0},
+    {"2440", "repetition", {{0, 800, 180}, {1, 1600, 200}, {2, 1600, 190}}, {4, 3, 3}, 244, {{0}}, 0},
+    {"2440c8", "puncturing", {EACH_TTI(376), EACH_TTI(376)}, {4, 3, 3}, 244, {{0}}, 0},
+    {"2440c8", "repetition", {EACH_TTI(250), EACH_TTI(250)}, {4, 3, 3}, 244, {{0}}, 0},
+    {"2440c16", "puncturing", {EACH_TTI(188), EACH_TTI(188), EACH_TTI(188), EACH_TTI(188)}, {4, 3, 3}, 244, {{0}}, 0},
+    {"2440c16", "repetition", {EACH_TTI(125), EACH_TTI(125), EACH_TTI(125), EACH_TTI(125)}, {4, 3, 3}, 244, {{0}}, 0},
+    {"8296u1:16", "puncturing", {{0, 5400, 200}, {1, 8000, 190}}, {2, 2}, 0, {{244, 4}, {3904, 0}}, 0},
+    {"8296u1:16", "repetition", {{0, 4000, 200}, {1, 6600, 190}}, {2, 2}, 0, {{244, 4}, {3904, 0}}, 0},
+    {"8296u16:1", "puncturing", {{0, 5400, 200}, {1, 8000, 190}}, {2, 2}, 0, {{3904, 0}, {244, 4}}, 0},
+    {"8296u16:1", "repetition", {{0, 4000, 200}, {1, 6600, 190}}, {2, 2}, 0, {{3904, 0}, {244, 4}}, 0},
+    {"2196u1:2", "puncturing", {{0, 1400, 200}, {1, 2200, 190}}, {2, 2, 2}, 0, {{244, 4}, {488, 3}}, 0},
+    {"2196u1:2", "repetition", {{0, 1000, 200}, {1, 1600, 190}}, {2, 2, 2}, 0, {{244, 4}, {488, 3}}, 0},
+    {"2928u1:1", "puncturing", {{0, 1800, 200}, {1, 3000, 190}}, {2, 2, 2}, 0, {{488, 3}, {488, 3}}, 0},
+    {"2928u1:1", "repetition", {{0, 1400, 200}, {1, 2200, 190}}, {2, 2, 2}, 0, {{488, 3}, {488, 3}}, 0},
+    {"54000", "puncturing", {{0, 14500, 200}, {0, 14500, 204}, {0, 14500, 196}, {0, 14500, 200}, {1, 1600, 200}}, {1, 1, 1, 1, 1, 1, 1, 1, 1, 1, 1, 1, 1, 1, 1}, 3600, {{0}}, 0},
+    {"54000", "repetition", {{0, 13000, 200}, {0, 13000, 190}, {0, 13000, 210}, {1, 8000, 200}, {2, 8000, 200}}, {1, 1, 1, 1, 1, 1, 1, 1, 1, 1, 1, 1, 1, 1, 1}, 3600, {{0}}, 0},
+    {"54000x15", "puncturing", {{0, 14500, 200}, {0, 14500, 204}, {0, 14500, 196}, {0, 14500, 200}, {1, 1600, 200}}, {15, 15, 15, 15, 15, 15, 15, 15, 15, 15, 15, 15, 15, 15, 15}, 240, {{0}}, 0},
+    {"54000x15", "repetition", {{0, 13000, 200}, {0, 13000, 190}, {0, 13000, 210}, {1, 8000, 200}, {2, 8000, 200}}, {15, 15, 15, 15, 15, 15, 15, 15, 15, 15, 15, 15, 15, 15, 15}, 240, {{0}}, 0},
+    {"176h", "puncturing", {{1, 440, 200}}, {1}, 88, {{0}}, 1},
+    {"176h", "repetition", {{1, 280, 200}}, {1}, 88, {{0}}, 1},
+    {"19712hx16", "puncturing", {{0, 9000, 200}, {1, 16000, 190}, {2, 16000, 210}, {3, 16000, 195}}, {16, 16, 16, 16, 16, 16, 16}, 88, {{0}}, 1},
+    {"19712hx16", "repetition", {{0, 7000, 200}, {1, 12000, 190}, {2, 12000, 210}, {3, 12000, 195}}, {16, 16, 16, 16, 16, 16, 16}, 88, {{0}}, 1},
+    {"8448hu1", "puncturing", {{0, 5400, 200}, {1, 8000, 190}}, {1, 1, 1}, 0, {{1408, 0}}, 1},
+    {"8448hu1", "repetition", {{0, 4000, 200}, {1, 6600, 190}}, {1, 1, 1}, 0, {{1408, 0}}, 1},
+    {"5984hu1:16", "puncturing", {{0, 3900, 200}, {1, 5800, 190}}, {2, 2}, 0, {{88, 4}, {1408, 0}}, 1},
+    {"5984hu1:16", "repetition", {{0, 2900, 200}, {1, 4800, 190}}, {2, 2}, 0, {{88, 4}, {1408, 0}}, 1},
+    {"1056hu1:1", "puncturing", {{0, 680, 200}, {1, 1060, 190}}, {2, 2, 2}, 0, {{88, 4}, {88, 4}}, 1},
+    {"1056hu1:1", "repetition", {{0, 500, 200}, {1, 800, 190}}, {2, 2, 2}, 0, {{88, 4}, {88, 4}}, 1},
 };
 
 static uint8_t sheet[UMV_SHEET_MOST], contents[MOST], frame[MOST], expected[MOST];
@@ -89,6 +102,7 @@ static void make_sheet(const struct row *row, uint16_t mode)
 {
     uint16_t fields[UMV_FIELDS] = {[UMV_FIELD_VERSION] = 1, [UMV_FIELD_MODE] = mode};
     fields[UMV_FIELD_UPLINK] = row->capacity == 0;
+    fields[UMV_FIELD_LCR] = row->lcr;
     uint64_t length;
     for (unsigned i = 0; row->channels[i].rm != 0; i++) {
         fields[UMV_FIELD_CHANNELS]++;
@@ -195,15 +209,17 @@ static void heard(const struct implementation *measured, unsigned long times)
 static void name(const struct implementation *measured, const struct row *row, uint32_t index, unsigned long times)
 {
     uint64_t trch, bit, copy, right_trch, right_bit, right_copy;
-    uint32_t slot = 0, phch = 0;
+    uint32_t half = 0, slot = 0, phch = 0;
     while (index >= capacity_of(row, phch)) {
         index -= capacity_of(row, phch);
         phch = (phch + 1) % row->phchs[slot];
         slot += phch == 0;
+        half += row->phchs[slot] == 0;
+        slot = row->phchs[slot] == 0 ? 0 : slot;
     }
-    ref_name(sheet, sheet_len, FRAME_NUMBER, slot + 1, phch + 1, index + 1, &right_trch, &right_bit, &right_copy);
+    ref_name(sheet, sheet_len, FRAME_NUMBER, half + 1, slot + 1, phch + 1, index + 1, &right_trch, &right_bit, &right_copy);
     for (; times > 0; times--)
-        if (measured->name_of(sheet, sheet_len, FRAME_NUMBER, slot + 1, phch + 1, index + 1, &trch, &bit, &copy) != 0)
+        if (measured->name_of(sheet, sheet_len, FRAME_NUMBER, half + 1, slot + 1, phch + 1, index + 1, &trch, &bit, &copy) != 0)
             fail("the name is refused");
     if (trch != right_trch || bit != right_bit || copy != right_copy)
         fail("the name differs from the reference's");

@@ -1,8 +1,9 @@
 /*
- * stack: prints, for each public call, how many bytes of stack it needs on the greatest frame: 60,000 places, 15 slots of 16
- * PhCHs or of two uplink codes, 16 channels of all TTIs, some punctured and some repeated; the most of both and of both modes,
- * accepted and, where a call looks at values, with the last of them bad. A call runs on a stack of its own, filled with one
- * byte; the deepest byte that it changed is looked for. What a function that does nothing needs there is taken off.
+ * stack: prints, for each public call, how many bytes of stack it needs: first on the greatest frame, of 60,000 places in 15 slots
+ * of 16 PhCHs or of two uplink codes, or in 5 of each of two sub-frames (1.28 Mcps), the most of all these; then on five frames of
+ * 1.28 Mcps. Channels are of all TTIs, some punctured and some repeated. Each is the most of both modes, accepted and, where a
+ * call looks at values, with the last of them bad. A call runs on a stack of its own, filled with one byte; the deepest byte that
+ * it changed is looked for. What a function that does nothing needs there is taken off.
  */
 #define _DEFAULT_SOURCE /* MAP_ANONYMOUS */
 #include <stdbool.h>
@@ -15,17 +16,31 @@
 #include "ummervia.h"
 
 enum {
-    MOST = 60000,      /* bits of the frame, and of all channels equalised */
+    MOST = 60000,      /* bits of the greatest frame, and of all channels equalised */
     CHANNELS = UMV_CHANNELS_MOST,
-    SLOTS = 15,
+    MOST_N = 2040,     /* bits of a segment in other frames: a TTI of eight frames has at most 16,383 */
     FRAME_NUMBER = 7,  /* not 0 in any TTI of more than one frame */
     ROOM = 4 << 20     /* bytes of the stack; as many below it may not be touched */
 };
 
+/* Every slot has so many codes, the first of `first` places and the others of `others`. */
+struct shape {
+    uint16_t lcr, uplink, slots, codes, first, others;
+};
+
+static const struct shape greatest[] = {
+    {0, 0, 15, 16, 250, 250}, {0, 1, 15, 2, 2000, 2000}, {1, 0, 5, 16, 375, 375}, {1, 1, 5, 2, 3000, 3000}};
+
+/* One code of 88 bits; 7 slots of 16 of them; uplink slots of one code, and twice of two. bench/stack has their names. */
+static const struct shape lcr_frames[] = {
+    {1, 0, 1, 1, 88, 0}, {1, 0, 7, 16, 88, 88}, {1, 1, 3, 1, 1408, 0}, {1, 1, 2, 2, 88, 1408}, {1, 1, 3, 2, 88, 88}};
+
+static const struct shape *shape;
 static uint16_t fields[UMV_FIELDS];
 static uint8_t sheet[UMV_SHEET_MOST], contents[MOST], multiplexed[MOST], frame[MOST];
-static size_t sheet_len;
-static uint16_t codes; /* of each slot */
+static size_t sheet_len, contents_len, frame_len, joined_len;
+static uint32_t channels; /* of the sheet, and of the last of them E and N */
+static uint64_t last_e, last_n;
 static float soft[MOST], gathered[MOST], joined[MOST], coded[MOST];
 
 static void fail(const char *what)
@@ -34,47 +49,60 @@ static void fail(const char *what)
     exit(2);
 }
 
-/* 12 x 3,752 and 4 x 3,744 encoded bits, no fillers since 8 divides both: 60,000 equalised. In uplink runs of 1 and 16. */
-static void make_fields(uint16_t mode, uint16_t uplink)
+/* The greatest frame has 12 x 3,752 and 4 x 3,744 encoded bits, 60,000 equalised; another four channels of as many bits a frame. No
+   fillers, since 8 divides all of these. */
+static void make_channels(uint32_t places)
 {
     static const uint16_t rm[] = {40, 256, 40, 256, 100, 200, 100, 1};
-    codes = uplink == 1 ? 2 : 16;
-    fields[UMV_FIELD_VERSION] = 1;
-    fields[UMV_FIELD_MODE] = mode;
-    fields[UMV_FIELD_CHANNELS] = CHANNELS;
-    fields[UMV_FIELD_SLOTS] = SLOTS;
-    fields[UMV_FIELD_UPLINK] = uplink;
-    for (unsigned i = 0; i < CHANNELS; i++) {
+    uint32_t n = places / 4 / 8 * 8;
+    fields[UMV_FIELD_CHANNELS] = places == MOST ? CHANNELS : 4;
+    for (unsigned i = 0; i < fields[UMV_FIELD_CHANNELS]; i++) {
         fields[UMV_FIELD_TTI + i] = (uint16_t)(i % 4);
-        fields[UMV_FIELD_E + i] = i < 12 ? 3752 : 3744;
+        fields[UMV_FIELD_E + i] = places == MOST ? (i < 12 ? 3752 : 3744) : (uint16_t)((n < MOST_N ? n : MOST_N) << i);
         fields[UMV_FIELD_RM + i] = rm[i % 8];
     }
-    for (unsigned t = 0; t < SLOTS; t++) {
-        fields[UMV_FIELD_PHCHS + t] = codes;
-        fields[UMV_FIELD_LOGARITHMS + 16 * t] = 4;
-    }
-    for (unsigned u = 0; u < 240; u++)
-        fields[UMV_FIELD_CAPACITIES + u] = (uint16_t)(MOST / SLOTS / codes);
 }
 
-static void make_sheet(uint16_t mode, uint16_t uplink)
+/* In uplink runs of 1 and 16. */
+static void make_fields(uint16_t mode)
 {
-    uint64_t at, channels, slots, sum, capacity, equalised, f, e, n, v;
+    memset(fields, 0, sizeof fields);
+    fields[UMV_FIELD_VERSION] = 1;
+    fields[UMV_FIELD_MODE] = mode;
+    fields[UMV_FIELD_SLOTS] = shape->slots;
+    fields[UMV_FIELD_UPLINK] = shape->uplink;
+    fields[UMV_FIELD_LCR] = shape->lcr;
+    for (unsigned t = 0; t < shape->slots; t++) {
+        fields[UMV_FIELD_PHCHS + t] = shape->codes;
+        fields[UMV_FIELD_LOGARITHMS + 16 * t] = 4;
+        for (unsigned p = 0; p < shape->codes; p++)
+            fields[UMV_FIELD_CAPACITIES + 16 * t + p] = p == 0 ? shape->first : shape->others;
+    }
+    make_channels((shape->lcr + 1u) * shape->slots * (shape->first + (shape->codes - 1u) * shape->others));
+}
+
+static void make_sheet(uint16_t mode)
+{
+    uint64_t at, counted, listed, sum, capacity, equalised, f, v;
     unsigned punctured = 0, repeated = 0;
-    make_fields(mode, uplink);
+    make_fields(mode);
     if (umv_sheet_length(fields, UMV_FIELDS, &at) != UMV_OK)
         fail("the fields are refused");
     sheet_len = at;
     if (umv_sheet_write(fields, UMV_FIELDS, sheet, sheet_len, &at) != UMV_OK ||
-        umv_sizes(sheet, sheet_len, &channels, &slots, &sum, &capacity, &equalised) != UMV_OK)
+        umv_sizes(sheet, sheet_len, &counted, &listed, &sum, &capacity, &equalised) != UMV_OK)
         fail("the sheet is refused");
+    channels = (uint32_t)counted;
+    contents_len = sum;
+    frame_len = capacity;
+    joined_len = equalised;
     for (uint32_t trch = 1; trch <= channels; trch++) {
-        umv_channel(sheet, sheet_len, trch, &f, &e, &n, &v);
-        punctured += v < n;
-        repeated += v > n;
+        umv_channel(sheet, sheet_len, trch, &f, &last_e, &last_n, &v);
+        punctured += v < last_n;
+        repeated += v > last_n;
     }
-    if (sum != MOST || capacity != MOST || equalised != MOST || punctured == 0 || repeated == 0)
-        fail("the frame is not the greatest, or no channel is punctured, or none repeated");
+    if (punctured == 0 || repeated == 0)
+        fail("no channel is punctured, or none repeated");
 }
 
 static void make_values(bool bad)
@@ -84,8 +112,8 @@ static void make_values(bool bad)
         soft[i] = (float)(i % 97) * 0.37f - 17.5f;
     }
     if (bad) {
-        contents[MOST - 1] = multiplexed[MOST - 1] = 2;
-        soft[MOST - 1] = 65537.0f;
+        contents[contents_len - 1] = multiplexed[frame_len - 1] = 2;
+        soft[frame_len - 1] = 65537.0f;
     }
 }
 
@@ -102,17 +130,23 @@ static void sheet_read(void) { answer = umv_sheet_read(SHEET, fields, UMV_FIELDS
 static void sheet_length(void) { answer = umv_sheet_length(fields, UMV_FIELDS, &a); }
 static void sheet_write(void) { answer = umv_sheet_write(fields, UMV_FIELDS, SHEET, &a); }
 static void sizes(void) { answer = umv_sizes(SHEET, &a, &b, &c, &d, &e); }
-static void channel(void) { answer = umv_channel(SHEET, CHANNELS, &a, &b, &c, &d); }
-static void build(void) { answer = umv_build(SHEET, FRAME_NUMBER, contents, MOST, frame, MOST, &a); }
-static void multiplex(void) { answer = umv_multiplex(SHEET, FRAME_NUMBER, contents, MOST, frame, MOST, &a); }
-static void spread(void) { answer = umv_spread(SHEET, multiplexed, MOST, frame, MOST, &a); }
-static void name(void) { answer = umv_name(SHEET, FRAME_NUMBER, SLOTS, codes, MOST / SLOTS / codes, &a, &b, &c); }
-static void part(void) { answer = umv_part(SHEET, CHANNELS, MOST, &a, &b); }
-static void gather(void) { answer = umv_gather(SHEET, soft, MOST, gathered, MOST, &a); }
-static void take_back(void) { answer = umv_take_back(SHEET, FRAME_NUMBER, soft, MOST, joined, MOST, &a); }
-static void finish(void) { answer = umv_finish(SHEET, CHANNELS, joined, MOST, coded, 3744, &a); }
-static void heard(void) { answer = umv_heard(SHEET, FRAME_NUMBER, soft, MOST, CHANNELS, 468, &a, &low, &b); }
-static void link(void) { answer = umv_link(SHEET, FRAME_NUMBER, soft, MOST, CHANNELS, &a, &low, &high, &b); }
+static void channel(void) { answer = umv_channel(SHEET, channels, &a, &b, &c, &d); }
+static void build(void) { answer = umv_build(SHEET, FRAME_NUMBER, contents, contents_len, frame, frame_len, &a); }
+static void multiplex(void) { answer = umv_multiplex(SHEET, FRAME_NUMBER, contents, contents_len, frame, frame_len, &a); }
+static void spread(void) { answer = umv_spread(SHEET, multiplexed, frame_len, frame, frame_len, &a); }
+static void part(void) { answer = umv_part(SHEET, channels, frame_len, &a, &b); }
+static void gather(void) { answer = umv_gather(SHEET, soft, frame_len, gathered, frame_len, &a); }
+static void take_back(void) { answer = umv_take_back(SHEET, FRAME_NUMBER, soft, frame_len, joined, joined_len, &a); }
+static void finish(void) { answer = umv_finish(SHEET, channels, joined, joined_len, coded, last_e, &a); }
+static void heard(void) { answer = umv_heard(SHEET, FRAME_NUMBER, soft, frame_len, channels, (uint32_t)last_n, &a, &low, &b); }
+static void link(void) { answer = umv_link(SHEET, FRAME_NUMBER, soft, frame_len, channels, &a, &low, &high, &b); }
+
+/* Of the frame's last place. */
+static void name(void)
+{
+    uint32_t places = shape->codes == 1 ? shape->first : shape->others;
+    answer = umv_name(SHEET, FRAME_NUMBER, shape->lcr + 1u, shape->slots, shape->codes, places, &a, &b, &c);
+}
 
 static const struct row {
     const char *name;
@@ -188,19 +222,34 @@ static size_t needed(void (*call)(void), uint32_t number)
     return most - least;
 }
 
+/* The most that a call needs on frames of this shape. */
+static size_t most_of(const struct row *row, const struct shape *of)
+{
+    size_t most = 0;
+    shape = of;
+    for (int kind = 0; kind < 4; kind++) {
+        bool bad = kind >= 2;
+        make_sheet((uint16_t)(kind % 2));
+        make_values(bad);
+        size_t bytes = needed(row->call, bad && row->looks ? UMV_CONTENT : UMV_OK);
+        most = bytes > most ? bytes : most;
+    }
+    return most;
+}
+
 int main(void)
 {
     make_room();
     for (size_t i = 0; i < sizeof rows / sizeof *rows; i++) {
         size_t most = 0;
-        for (int kind = 0; kind < 8; kind++) {
-            bool bad = kind >= 4;
-            make_sheet((uint16_t)(kind % 2), (uint16_t)(kind / 2 % 2));
-            make_values(bad);
-            size_t bytes = needed(rows[i].call, bad && rows[i].looks ? UMV_CONTENT : UMV_OK);
+        for (size_t k = 0; k < sizeof greatest / sizeof *greatest; k++) {
+            size_t bytes = most_of(&rows[i], &greatest[k]);
             most = bytes > most ? bytes : most;
         }
-        printf("%s %zu\n", rows[i].name, most);
+        printf("%s %zu", rows[i].name, most);
+        for (size_t k = 0; k < sizeof lcr_frames / sizeof *lcr_frames; k++)
+            printf(" %zu", most_of(&rows[i], &lcr_frames[k]));
+        puts("");
     }
     return 0;
 }

@@ -1,9 +1,10 @@
 /*
- * roundtrip: sends 40 ms of three uplink transport channels and brings them home. Each frame is built, its bits become soft values,
- * +1 for 0 and -1 for 1, and the values are taken back; a channel whose TTI is over is finished and compared with what was
- * sent. The exit status is 0 only if every bit that was not punctured came home with the right sign.
+ * roundtrip [SHEETFILE]: sends as many frames as the longest TTI of the sheet has, and brings them home; without a file, 40 ms of
+ * three uplink transport channels. Each frame is built, its bits become soft values, +1 for 0 and -1 for 1, and the values are
+ * taken back; a channel whose TTI is over is finished and compared with what was sent. The exit status is 0 only if every bit that
+ * was not punctured came home with the right sign.
  *
- *     cc roundtrip.c $(pkg-config --cflags --libs ummervia) -o roundtrip && ./roundtrip
+ *     cc roundtrip.c $(pkg-config --cflags --libs ummervia) -o roundtrip && ./roundtrip && ./roundtrip lcr.sheet
  */
 #include <inttypes.h>
 #include <stdbool.h>
@@ -12,8 +13,6 @@
 
 #include "ummervia.h"
 
-enum { CHANNELS = 3, FRAMES = 4 }; /* four frames are the longest TTI below */
-
 struct channel {
     uint64_t f, e, n, v;                   /* what umv_channel says of it */
     uint64_t start;                        /* its first byte in the contents */
@@ -21,12 +20,13 @@ struct channel {
 };
 
 struct station {
-    uint8_t sheet[UMV_SHEET_MOST];
+    uint8_t sheet[UMV_SHEET_FORM_MOST + 1]; /* a byte more than has the form of a sheet, so that a longer file is refused */
     size_t sheet_len;
-    uint64_t contents_len, capacity, joined_len; /* what umv_sizes says */
+    uint64_t channels, contents_len, capacity, joined_len; /* what umv_sizes says */
+    uint64_t frames;                                       /* of the longest TTI */
     uint8_t *contents, *frame;                   /* a byte a bit */
     float *received, *joined, *coded;            /* soft values */
-    struct channel channel[CHANNELS];
+    struct channel channel[UMV_CHANNELS_MOST];
 };
 
 static void must(uint32_t number, const char *call)
@@ -53,16 +53,17 @@ static void write_sheet(struct station *s)
 {
     static const struct {
         uint16_t tti, e, rm;
-    } channel[CHANNELS] = {{0, 120, 100}, {1, 160, 150}, {2, 160, 200}}; /* TTIs of 10, 20 and 40 ms */
+    } channel[3] = {{0, 120, 100}, {1, 160, 150}, {2, 160, 200}}; /* TTIs of 10, 20 and 40 ms */
     uint16_t fields[UMV_FIELDS] = {0};
     uint64_t length, at;
 
     fields[UMV_FIELD_VERSION] = 1;
     fields[UMV_FIELD_MODE] = 0;
-    fields[UMV_FIELD_CHANNELS] = CHANNELS;
+    fields[UMV_FIELD_CHANNELS] = 3;
     fields[UMV_FIELD_SLOTS] = 2;
     fields[UMV_FIELD_UPLINK] = 1;
-    for (int i = 0; i < CHANNELS; i++) {
+    fields[UMV_FIELD_LCR] = 0; /* 3.84 Mcps */
+    for (int i = 0; i < 3; i++) {
         fields[UMV_FIELD_TTI + i] = channel[i].tti;
         fields[UMV_FIELD_E + i] = channel[i].e;
         fields[UMV_FIELD_RM + i] = channel[i].rm;
@@ -81,21 +82,34 @@ static void write_sheet(struct station *s)
     s->sheet_len = length;
 }
 
-/* The library allocates nothing: umv_sizes says what it will be lent. */
+/* Or it comes from a file. */
+static void read_sheet(struct station *s, const char *name)
+{
+    FILE *file = fopen(name, "rb");
+    if (file == NULL) {
+        perror(name);
+        exit(2);
+    }
+    s->sheet_len = fread(s->sheet, 1, sizeof s->sheet, file);
+    fclose(file);
+}
+
+/* The library allocates nothing: umv_sizes says what it will be lent. The capacity is that of all sub-frames. */
 static void measure(struct station *s)
 {
-    uint64_t channels, slots, start = 0;
-    must(umv_sizes(s->sheet, s->sheet_len, &channels, &slots, &s->contents_len, &s->capacity, &s->joined_len), "umv_sizes");
+    uint64_t slots, start = 0;
+    must(umv_sizes(s->sheet, s->sheet_len, &s->channels, &slots, &s->contents_len, &s->capacity, &s->joined_len), "umv_sizes");
     s->contents = room_for(s->contents_len, sizeof *s->contents);
     s->frame = room_for(s->capacity, sizeof *s->frame);
     s->received = room_for(s->capacity, sizeof *s->received);
     s->joined = room_for(s->joined_len, sizeof *s->joined);
     s->coded = room_for(s->contents_len, sizeof *s->coded); /* enough for any one channel */
-    for (uint32_t trch = 1; trch <= channels; trch++) {
+    for (uint32_t trch = 1; trch <= s->channels; trch++) {
         struct channel *c = &s->channel[trch - 1];
         must(umv_channel(s->sheet, s->sheet_len, trch, &c->f, &c->e, &c->n, &c->v), "umv_channel");
         c->start = start;
         start += c->e;
+        s->frames = c->f > s->frames ? c->f : s->frames;
     }
 }
 
@@ -103,7 +117,7 @@ static void measure(struct station *s)
 static void send_frame(struct station *s, uint32_t number)
 {
     uint64_t at;
-    for (struct channel *c = s->channel; c < s->channel + CHANNELS; c++) {
+    for (struct channel *c = s->channel; c < s->channel + s->channels; c++) {
         if (number % c->f != 0)
             continue;
         for (uint64_t i = 0; i < c->e; i++)
@@ -136,7 +150,7 @@ static void receive_frame(struct station *s, uint32_t number)
         s->received[i] = s->frame[i] == 0 ? 1.0f : -1.0f;
     must(umv_take_back(s->sheet, s->sheet_len, number, s->received, s->capacity, s->joined, s->joined_len, &at),
          "umv_take_back");
-    for (uint32_t trch = 1; trch <= CHANNELS; trch++) {
+    for (uint32_t trch = 1; trch <= s->channels; trch++) {
         struct channel *c = &s->channel[trch - 1];
         if (number % c->f != c->f - 1)
             continue; /* its TTI goes on */
@@ -145,29 +159,32 @@ static void receive_frame(struct station *s, uint32_t number)
     }
 }
 
-/* F divides E in each channel, so that there are no fillers: what rate matching drops are bits of the channel. */
-static bool report(uint32_t trch, const struct channel *c)
+/* What rate matching drops are bits of the channel, or fillers, which are there where F does not divide E. */
+static bool report(uint32_t trch, const struct channel *c, uint64_t frames)
 {
-    uint64_t punctured = c->v < c->n ? FRAMES * (c->n - c->v) : 0;
+    uint64_t punctured = c->v < c->n ? frames * (c->n - c->v) : 0, fillers = frames * c->n - c->sent;
     printf("channel %" PRIu32 ", %" PRIu64 " bits a frame sent as %" PRIu64 ": ", trch, c->n, c->v);
     printf("%" PRIu64 " sent, %" PRIu64 " heard in %" PRIu64 " copies, ", c->sent, c->heard, c->copies);
     printf("%" PRIu64 " silent, %" PRIu64 " punctured, %" PRIu64 " wrong\n", c->silent, punctured, c->wrong);
-    return c->wrong == 0 && c->silent == punctured && c->heard == c->sent - punctured;
+    return c->wrong == 0 && c->silent <= punctured && punctured <= c->silent + fillers && c->heard == c->sent - c->silent;
 }
 
-int main(void)
+int main(int argc, char **argv)
 {
     static struct station s;
     bool good = true;
-    write_sheet(&s);
+    if (argc > 1)
+        read_sheet(&s, argv[1]);
+    else
+        write_sheet(&s);
     measure(&s);
-    printf("%d frames of %" PRIu64 " bits, sheet of %zu bytes\n", FRAMES, s.capacity, s.sheet_len);
-    for (uint32_t number = 0; number < FRAMES; number++) {
+    printf("%" PRIu64 " frames of %" PRIu64 " bits, sheet of %zu bytes\n", s.frames, s.capacity, s.sheet_len);
+    for (uint32_t number = 0; number < s.frames; number++) {
         send_frame(&s, number);
         receive_frame(&s, number);
     }
-    for (uint32_t trch = 1; trch <= CHANNELS; trch++)
-        good = report(trch, &s.channel[trch - 1]) && good;
+    for (uint32_t trch = 1; trch <= s.channels; trch++)
+        good = report(trch, &s.channel[trch - 1], s.frames) && good;
     puts(good ? "all heard bits are right, and only punctured ones silent" : "NOT all bits came home");
     free(s.contents);
     free(s.frame);

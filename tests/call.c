@@ -54,7 +54,7 @@ RUN(spread)
 
 RUN(name_of)
 {
-    return by->name_of(SLICE(0), WHOLE(0), WHOLE(1), WHOLE(2), WHOLE(3), ANSWER(0), ANSWER(1), ANSWER(2));
+    return by->name_of(SLICE(0), WHOLE(0), WHOLE(1), WHOLE(2), WHOLE(3), WHOLE(4), ANSWER(0), ANSWER(1), ANSWER(2));
 }
 
 RUN(part)
@@ -87,8 +87,8 @@ RUN(link)
     return by->link(SLICE(0), WHOLE(0), SLICE(1), WHOLE(1), ANSWER(0), SOFT(1), SOFT(2), ANSWER(3));
 }
 
-/* The numbers 0 to 8 and 13, of a sheet; the same but 1, of fields; with 9, of a sheet and a frame number; 10; 11; 11 and 12. */
-#define OF_SHEET (0x1ffu | 1u << UMV_UPLINK_CODES)
+/* The numbers 0 to 8, 13 and 14, of a sheet; the same but 1, of fields; with 9, of a sheet and a frame number; 10; 11; 11, 12. */
+#define OF_SHEET (0x1ffu | 1u << UMV_UPLINK_CODES | 1u << UMV_SUBFRAME_SLOTS)
 #define OF_FIELDS (OF_SHEET & ~(1u << UMV_SHORT))
 #define OF_FRAME (OF_SHEET | 1u << UMV_FRAME_NUMBER)
 #define ABSENT (1u << UMV_ABSENT)
@@ -105,7 +105,7 @@ const struct call calls[CALLS] = {
     {"umv_build", "build", "bnbB", "*ED", "w", {"at"}, OF_FRAME | CONTENT, run_build},
     {"umv_multiplex", "multiplex", "bnbB", "*ED", "w", {"at"}, OF_FRAME | CONTENT, run_multiplex},
     {"umv_spread", "spread", "bbB", "*DD", "w", {"at"}, OF_SHEET | CONTENT, run_spread},
-    {"umv_name", "name", "bntpu", "*", "www", {"TrCH", "bit", "copy"}, OF_FRAME | ABSENT, run_name_of},
+    {"umv_name", "name", "bnhtpu", "*", "www", {"TrCH", "bit", "copy"}, OF_FRAME | ABSENT, run_name_of},
     {"umv_part", "part", "bcl", "*", "ww", {"start", "length"}, OF_SHEET | ABSENT | LENGTH, run_part},
     {"umv_gather", "gather", "bsS", "*DD", "w", {"at"}, OF_SHEET | CONTENT, run_gather},
     {"umv_take_back", "take", "bnsS", "*DT", "w", {"at"}, OF_FRAME | CONTENT, run_take_back},

@@ -14,9 +14,9 @@
 enum {
     CALLS = 15,
     MOST_SLICES = 3,     /* lent to one call */
-    MOST_WHOLE = 4,      /* numbers of 32 bits given to one call */
+    MOST_WHOLE = 5,      /* numbers of 32 bits given to one call */
     MOST_ANSWERS = 5,    /* written through pointers by one call */
-    NUMBERS = 14,        /* 0 to 13 */
+    NUMBERS = 15,        /* 0 to 14 */
     UNWRITTEN_BYTE = 0x5a /* each byte of an answer before the call: the call must write it */
 };
 
@@ -44,8 +44,8 @@ struct call {
     const char *name;
     const char *word;       /* its name in a vector file */
     const char *parameters; /* a letter each. Slices: b bytes, f fields, s soft values, as capitals where the call writes
-                               them. Numbers of 32 bits: n a frame number, c a TrCH, t a slot, p a PhCH, u a place, m a bit
-                               of a segment. l: the length of 64 bits */
+                               them. Numbers of 32 bits: n a frame number, c a TrCH, h a sub-frame, t a slot, p a PhCH,
+                               u a place, m a bit of a segment. l: the length of 64 bits */
     const char *lengths;    /* what each slice must have, a letter each: * any, F UMV_FIELDS, W the bytes of the fields'
                                sheet, E the sum of E, D, T the sum of T_i, C the E of the TrCH */
     const char *answers;    /* a letter each: w a whole number, s a float */

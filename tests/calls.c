@@ -38,6 +38,17 @@ static void test_values(void)
     CHECK(is_channel(channel_of(shares.bytes, shares.length, 2), 1, 4, 4, 6));
 }
 
+/* The example, and the shares, at 1.28 Mcps: D is twice what it was. */
+static void test_lcr_values(void)
+{
+    struct sheet sheet = sheet_of("10 14 00 06 00 00 04"), shares = sheet_of("11 14 0006 00 0004 01 000a");
+    CHECK(is_sizes(sizes_of(sheet.bytes, sheet.length), 1, 1, 6, 8, 6));
+    CHECK(is_channel(channel_of(sheet.bytes, sheet.length, 1), 1, 6, 6, 8));
+    CHECK(is_sizes(sizes_of(shares.bytes, shares.length), 2, 1, 10, 20, 10));
+    CHECK(is_channel(channel_of(shares.bytes, shares.length, 1), 1, 6, 6, 8));
+    CHECK(is_channel(channel_of(shares.bytes, shares.length, 2), 1, 4, 4, 12));
+}
+
 /* RM = 256 and E = 16,383, the most that a sheet can say; 60,000 bits in 15 slots. */
 static void test_greatest(void)
 {
@@ -83,6 +94,28 @@ static void test_longest(void)
             expect_sheet_refused(sheet.bytes, length, length < 2 ? UMV_SHORT : UMV_FORM);
     make_longest(fields, 251);
     expect_fields_refused(fields, UMV_MUCH_CAPACITY);
+}
+
+/* The longest of 1.28 Mcps has 222 bytes. One bit more in each sub-frame draws 7, and is accepted at 3.84 Mcps. */
+static void test_longest_lcr(void)
+{
+    uint16_t fields[UMV_FIELDS];
+    make_longest_lcr(fields);
+    struct sheet sheet = sheet_with(fields);
+    CHECK(sheet.length == 222);
+    expect_fields_written(fields, &sheet);
+    expect_sheet_read(&sheet, fields);
+    CHECK(is_sizes(sizes_of(sheet.bytes, sheet.length), 16, 7, 60000, 60000, 60000));
+    for (size_t length = 2; length < sizeof sheet.bytes; length++)
+        if (length != 222)
+            expect_sheet_refused(sheet.bytes, length, UMV_FORM);
+    fields[UMV_FIELD_CAPACITIES + 16 * 6 + 15]++;
+    expect_fields_refused(fields, UMV_MUCH_CAPACITY);
+    sheet = sheet_with(fields);
+    expect_sheet_refused(sheet.bytes, sheet.length, UMV_MUCH_CAPACITY);
+    fields[UMV_FIELD_LCR] = 0;
+    sheet = sheet_with(fields);
+    CHECK(is_sizes(sizes_of(sheet.bytes, sheet.length), 16, 7, 60000, 30001, 60000));
 }
 
 /* The longest that has a sheet's form: an uplink one of 16 codes a slot, 508 bytes. It is refused with 13, with its last capacity 0
@@ -140,7 +173,8 @@ static void draw_fields(uint16_t *fields)
     fields[UMV_FIELD_VERSION] = 1;
     fields[UMV_FIELD_MODE] = (uint16_t)draw(0, 1);
     fields[UMV_FIELD_CHANNELS] = (uint16_t)draw(1, 16);
-    fields[UMV_FIELD_SLOTS] = (uint16_t)draw(1, 15);
+    fields[UMV_FIELD_LCR] = (uint16_t)draw(0, 1);
+    fields[UMV_FIELD_SLOTS] = (uint16_t)draw(1, fields[UMV_FIELD_LCR] == 1 ? UMV_SUBFRAME_SLOTS_MOST : 15);
     fields[UMV_FIELD_UPLINK] = (uint16_t)draw(0, 1);
     for (unsigned i = 0; i < fields[UMV_FIELD_CHANNELS]; i++) {
         fields[UMV_FIELD_TTI + i] = (uint16_t)draw(0, 3);
@@ -180,7 +214,7 @@ static void expect_numbers(const uint16_t *fields, const struct sheet *sheet)
         joined += segment(fields, i) << fields[UMV_FIELD_TTI + i];
     }
     for (unsigned place = UMV_FIELD_CAPACITIES; place < UMV_FIELD_LOGARITHMS; place++)
-        capacity += fields[place];
+        capacity += (fields[UMV_FIELD_LCR] + 1u) * fields[place];
     CHECK(is_sizes(sizes_of(sheet->bytes, sheet->length), channels, fields[UMV_FIELD_SLOTS], contents, capacity,
                    joined));
     for (unsigned i = 0; i < channels; i++) {
@@ -212,12 +246,15 @@ int main(void)
 {
     test_example();
     test_values();
+    test_lcr_values();
     test_greatest();
     test_content_bound();
     test_longest();
+    test_longest_lcr();
     test_longest_form();
     test_round_trip(make_fields);
     test_round_trip(make_uplink);
+    test_round_trip(make_lcr);
     test_many();
     test_refusals();
     return report("calls");

@@ -16,12 +16,12 @@ bool in_use(const uint16_t *fields, unsigned place)
     return there && (place < UMV_FIELD_LOGARITHMS || fields[UMV_FIELD_UPLINK] != 0);
 }
 
-void fill_slots(uint16_t *fields, uint16_t capacity)
+void fill_slots(uint16_t *fields, uint16_t slots, uint16_t capacity)
 {
-    fields[UMV_FIELD_SLOTS] = 15;
-    for (unsigned t = 0; t < 15; t++)
+    fields[UMV_FIELD_SLOTS] = slots;
+    for (unsigned t = 0; t < slots; t++)
         fields[UMV_FIELD_PHCHS + t] = 16;
-    for (unsigned u = 0; u < 240; u++)
+    for (unsigned u = 0; u < 16u * slots; u++)
         fields[UMV_FIELD_CAPACITIES + u] = capacity;
 }
 
@@ -42,7 +42,7 @@ size_t pack(const uint16_t *fields, uint8_t *sheet)
     put(sheet, &bits, (fields[UMV_FIELD_CHANNELS] - 1u) % 8, 3);
     put(sheet, &bits, fields[UMV_FIELD_SLOTS], 4);
     put(sheet, &bits, fields[UMV_FIELD_UPLINK], 1);
-    put(sheet, &bits, 0, 1);
+    put(sheet, &bits, fields[UMV_FIELD_LCR], 1);
     put(sheet, &bits, (fields[UMV_FIELD_CHANNELS] - 1u) / 8, 1);
     put(sheet, &bits, 0, 1);
     for (unsigned i = 0; i < fields[UMV_FIELD_CHANNELS]; i++) {

@@ -14,7 +14,7 @@
 #include "ummervia.h"
 
 enum {
-    SHEETS = 300, /* made unless asked otherwise */
+    SHEETS = 500, /* made unless asked otherwise */
     FRAMES = 8,   /* of the longest TTI */
     CHANNELS = SMALL_CHANNELS,
     MOST_E = SMALL_E,
@@ -40,17 +40,21 @@ static struct channel {
     size_t in_contents, in_joined; /* where it begins */
 } channels[CHANNELS];
 
-static unsigned long met_mode[2], met_tti[4], met_channels[CHANNELS], met_empty;
-static unsigned long met_single, met_codes[5][5]; /* uplink slots of one code, and of two with these logarithms */
+static unsigned long met_tti[4], met_channels[CHANNELS], met_empty;
+
+/* Of 3.84 and of 1.28 Mcps: modes, uplink slots of one code, and of two with these logarithms. */
+static struct {
+    unsigned long mode[2], single, codes[5][5];
+} met[2];
 
 static void count_codes(void)
 {
     for (uint32_t t = 0; fields[UMV_FIELD_UPLINK] == 1 && t < sizes.slots; t++) {
         const uint16_t *logs = &fields[UMV_FIELD_LOGARITHMS + 16 * t];
         if (fields[UMV_FIELD_PHCHS + t] == 1)
-            met_single++;
+            met[fields[UMV_FIELD_LCR]].single++;
         else
-            met_codes[logs[0]][logs[1]]++;
+            met[fields[UMV_FIELD_LCR]].codes[logs[0]][logs[1]]++;
     }
 }
 
@@ -71,7 +75,7 @@ static bool read_channels(void)
         met_empty += c->e == 0;
     }
     count_codes();
-    met_mode[fields[UMV_FIELD_MODE]]++;
+    met[fields[UMV_FIELD_LCR]].mode[fields[UMV_FIELD_MODE]]++;
     met_channels[sizes.channels - 1]++;
     return CHECK(in_contents == sizes.contents && in_joined == sizes.joined);
 }
@@ -97,16 +101,22 @@ static uint8_t contents[CHANNELS * MOST_E], frame[MOST_PLACES];
 static float soft[MOST_PLACES], joined[CHANNELS * MOST_T];
 static uint32_t named[FRAMES][CHANNELS][MOST_T]; /* places of a frame that name a bit */
 
-static void count_names(uint32_t frame_number)
+static void count_subframe(uint32_t frame_number, uint32_t h)
 {
     uint64_t trch, bit, copy;
     for (uint32_t t = 1; t <= sizes.slots; t++)
         for (uint32_t p = 1; p <= fields[UMV_FIELD_PHCHS + t - 1]; p++)
             for (uint32_t u = 1; u <= fields[UMV_FIELD_CAPACITIES + 16 * (t - 1) + p - 1]; u++)
-                if (CHECK(umv_name(sheet, sheet_len, frame_number, t, p, u, &trch, &bit, &copy) == UMV_OK) &&
+                if (CHECK(umv_name(sheet, sheet_len, frame_number, h, t, p, u, &trch, &bit, &copy) == UMV_OK) &&
                     CHECK(trch >= 1 && trch <= sizes.channels) &&
                     CHECK(bit >= 1 && bit <= channels[trch - 1].f * channels[trch - 1].n))
                     named[frame_number % FRAMES][trch - 1][bit - 1]++;
+}
+
+static void count_names(uint32_t frame_number)
+{
+    for (uint32_t h = 1; h <= fields[UMV_FIELD_LCR] + 1u; h++)
+        count_subframe(frame_number, h);
 }
 
 static void send(uint32_t frame_number)
@@ -237,15 +247,16 @@ static void there_and_back(void)
 /* How many kinds of sheet or of bit were never met. */
 static unsigned not_met(void)
 {
-    unsigned missing = (met_empty == 0) + (punctured == 0) + (once == 0) + (joined_values == 0) + (met_single == 0);
-    for (int i = 0; i < 2; i++)
-        missing += met_mode[i] == 0;
+    unsigned missing = (met_empty == 0) + (punctured == 0) + (once == 0) + (joined_values == 0);
     for (int i = 0; i < 4; i++)
         missing += met_tti[i] == 0;
     for (int i = 0; i < CHANNELS; i++)
         missing += met_channels[i] == 0;
-    for (int i = 0; i < 25; i++)
-        missing += met_codes[i / 5][i % 5] == 0;
+    for (int lcr = 0; lcr < 2; lcr++) {
+        missing += (met[lcr].mode[0] == 0) + (met[lcr].mode[1] == 0) + (met[lcr].single == 0);
+        for (int i = 0; i < 25; i++)
+            missing += met[lcr].codes[i / 5][i % 5] == 0;
+    }
     return missing;
 }
 

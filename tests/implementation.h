@@ -25,7 +25,7 @@ struct implementation {
                       uint64_t *);
     uint32_t (*link)(const uint8_t *, size_t, uint32_t, const float *, size_t, uint32_t, uint64_t *, float *, float *,
                      uint64_t *);
-    uint32_t (*name_of)(const uint8_t *, size_t, uint32_t, uint32_t, uint32_t, uint32_t, uint64_t *, uint64_t *,
+    uint32_t (*name_of)(const uint8_t *, size_t, uint32_t, uint32_t, uint32_t, uint32_t, uint32_t, uint64_t *, uint64_t *,
                         uint64_t *);
     uint32_t (*part)(const uint8_t *, size_t, uint32_t, uint64_t, uint64_t *, uint64_t *);
 };

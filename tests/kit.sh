@@ -33,12 +33,16 @@ told() {
 # HEX: the sheet of these bytes, in a file.
 sheet() { printf '%b' "$(sed 's/ //g; s/../\\x&/g' <<<"$1")" >"$room/sheet"; }
 
-# HEX FRAME SLOT PHCH PLACE STATUS TEXT: what whereis says of a place of the frame that the sheet HEX describes.
-whereis() {
+# HEX FRAME SUBFRAME SLOT PHCH PLACE STATUS TEXT: what whereis says of a place of the frame that the sheet HEX describes. The sub-frame may be
+# empty, and is not asked for then.
+whereis_in() {
     sheet "$1"
-    same "whereis, sheet $1, frame $2, $3/$4/$5" "$7"$'\n'"status $6" \
-        "$(told "${run[@]}" "$room/examples/whereis" "$room/sheet" "$2" "$3" "$4" "$5")"
+    same "whereis, sheet $1, frame $2, $3/$4/$5/$6" "$8"$'\n'"status $7" \
+        "$(told "${run[@]}" "$room/examples/whereis" "$room/sheet" "$2" $3 "$4" "$5" "$6")"
 }
+
+# The same without a sub-frame.
+whereis() { whereis_in "$1" "$2" '' "${@:3}"; }
 
 files_in() { find "$1" ! -type d -printf '%P\n' | sort; }
 
@@ -56,6 +60,7 @@ share/doc/ummervia/SPEED.md
 share/doc/ummervia/examples/Makefile
 share/doc/ummervia/examples/example.sheet
 share/doc/ummervia/examples/gateway.sheet
+share/doc/ummervia/examples/lcr.sheet
 share/doc/ummervia/examples/picture.sheet
 share/doc/ummervia/examples/roundtrip.c
 share/doc/ummervia/examples/sizes.c
@@ -174,14 +179,28 @@ for bit in 12 9 4 6 11; do
     place=$((place + 1))
     whereis '10 18 00 0c 00 16 00 e4 01 40' 0 1 2 $place 0 "bit $bit of channel 1, copy 0"
 done
-# The table of numbers. 6: 8 channels of 16,383 bits; 7: 15 slots of 4,095 bits, 61,425 in sum.
+# 1.28 Mcps: PhCHs of 2 and 2 places in slot 1 and of 2 in slot 2, in each sub-frame. Mode 0: the 12 bits, interleaved as above, are halved,
+# and each half is cut into 4 and 2. Mode 1: 8 bits of slot 1, interleaved as 1, 6, 4, 2, 7, 5, 3, 8, are halved, and 4 of slot 2, as 9, 12, 10, 11.
+# PhCH 2 is filled from its last place down.
+halves() {
+    for place in 1/1/1 1/1/2 1/2/1 1/2/2 2/1/1 2/1/2; do
+        whereis_in "$1" 0 "$2" ${place//// } 0 "bit $3 of channel 1, copy 0"
+        set -- "$1" "$2" "${@:4}"
+    done
+}
+halves '10 24 00 0c 00 10 02 00 20 00 20' 1 1 6 4 11 9 2
+halves '10 24 00 0c 00 10 02 00 20 00 20' 2 12 5 10 7 3 8
+halves '18 24 00 0c 00 10 02 00 20 00 20' 1 1 4 2 6 9 12
+halves '18 24 00 0c 00 10 02 00 20 00 20' 2 7 3 8 5 10 11
+whereis '10 24 00 0c 00 10 02 00 20 00 20' 0 1 1 2 0 'bit 6 of channel 1, copy 0'
+# The table of numbers. 6: 8 channels of 16,383 bits; 7: 15 slots of 4,095 bits, 61,425 in sum, and 30,001 bits in each of two sub-frames.
 whereis '10' 0 1 1 1 1 'refused, 1: the sheet is shorter than 2 bytes'
 whereis '20 10 00 06 00 00 04' 0 1 1 1 1 "refused, 2: the sheet's version is not 1"
 whereis '10 00 00 06 00' 0 1 1 1 1 'refused, 3: the sheet has no slot'
 form="refused, 4: the sheet's length is not what its fields need, or a spare or padding bit is set"
 whereis "$example 00" 0 1 1 1 1 "$form"
 whereis '10 11 00 06 00 00 04' 0 1 1 1 1 "$form"
-whereis '10 14 00 06 00 00 04' 0 1 1 1 1 "$form"
+whereis '10 15 00 06 00 00 04' 0 1 1 1 1 "$form"
 whereis '10 10 00 06 00 00 00' 0 1 1 1 1 'refused, 5: a capacity is 0'
 codes='refused, 13: an uplink slot has more than two codes, or a logarithm over 4'
 whereis '10 18 00 06 00 0a 00 80' 0 1 1 1 1 "$codes"
@@ -192,17 +211,26 @@ same 'sizes, the longest that has a form' $'the sheet is refused: 13\nstatus 1' 
     "$(told "${run[@]}" "$room/examples/sizes" "$room/sheet")"
 whereis "${longest}000" 0 1 1 1 1 "$form"
 whereis "${longest%fff}0000" 0 1 1 1 1 'refused, 5: a capacity is 0'
+whereis "10 84 00 06 00 $(printf '00 04 %.0s' {1..8})" 0 1 1 1 1 'refused, 14: a sheet of 1.28 Mcps has more than 7 slots'
 whereis "17 10 $(printf '3f ff 00 %.0s' {1..8})00 04" 0 1 1 1 1 \
     "refused, 6: the channels' equalised sizes sum up to more than 60,000 bits"
-whereis "10 f0 00 06 00 $(printf '0f ff %.0s' {1..15})" 0 1 1 1 1 'refused, 7: the capacities sum up to more than 60,000 bits'
+for slots in "10 f0 00 06 00 $(printf '0f ff %.0s' {1..15})" "10 74 00 06 00 $(printf '0f ff %.0s' {1..6})1f ff 53 80"; do
+    whereis "$slots" 0 1 1 1 1 'refused, 7: the capacities of all sub-frames sum up to more than 60,000 bits'
+done
 whereis '10 10 00 00 00 00 04' 0 1 1 1 1 'refused, 8: every channel is empty'
 whereis "$example" 256 1 1 1 1 'refused, 9: the frame number is over 255'
+absence='refused, 10: there is no such sub-frame, slot, physical channel or place'
 for absent in '0 1 1' '2 1 1' '1 0 1' '1 2 1' '1 1 0' '1 1 5'; do
     read -r slot phch place <<<"$absent"
-    whereis "$example" 0 "$slot" "$phch" "$place" 1 'refused, 10: there is no such slot, physical channel or place'
+    whereis "$example" 0 "$slot" "$phch" "$place" 1 "$absence"
 done
-whereis "$example" 0 1 1 -1 2 'use: whereis SHEETFILE FRAME SLOT PHCH PLACE'
-whereis "$example" 4294967296 1 1 1 2 'use: whereis SHEETFILE FRAME SLOT PHCH PLACE'
+whereis_in "$example" 0 1 1 1 2 0 'bit 6 of channel 1, copy 0'
+for subframe in 0 2 4294967295; do whereis_in "$example" 0 $subframe 1 1 2 1 "$absence"; done
+for subframe in 0 3; do whereis_in '10 24 00 0c 00 10 02 00 20 00 20' 0 $subframe 1 1 2 1 "$absence"; done
+use='use: whereis SHEETFILE FRAME [SUBFRAME] SLOT PHCH PLACE'
+whereis "$example" 0 1 1 -1 2 "$use"
+whereis "$example" 4294967296 1 1 1 2 "$use"
+whereis_in "$example" 0 -1 1 1 1 2 "$use"
 
 # E = 120, 160, 160 and F = 1, 2, 4 give N = 120, 80, 40; with RM = 100, 150, 200 the weights RM x N are 12,000, 12,000 and 8,000.
 # D = 48 + 96 + 96 = 240, so that Z = 240 x (12, 24, 32) / 32 = 90, 180, 240 and V = 90, 90, 60. In four frames channel 1 sends
@@ -214,6 +242,14 @@ channel 2, 80 bits a frame sent as 90: 320 sent, 320 heard in 360 copies, 0 sile
 channel 3, 40 bits a frame sent as 60: 160 sent, 160 heard in 240 copies, 0 silent, 0 punctured, 0 wrong
 all heard bits are right, and only punctured ones silent
 status 0" "$(told "${run[@]}" "$room/examples/roundtrip")"
+
+# The sheet of 1.28 Mcps: E = 804, 360 and F = 2, 4 give N = 402, 90; with RM = 180, 256 the weights are 72,360 and 23,040, in sum 95,400.
+# D = 2 x (88 + 88 + 44) = 440, so that Z = 440 x 72,360 / 95,400 = 333 and 440; V = 333, 107. It has 16 + 2 x 24 + (4 + 24) + (4 + 12) = 108 bits.
+same 'roundtrip, 1.28 Mcps' "4 frames of 440 bits, sheet of 14 bytes
+channel 1, 402 bits a frame sent as 333: 1608 sent, 1332 heard in 1332 copies, 276 silent, 276 punctured, 0 wrong
+channel 2, 90 bits a frame sent as 107: 360 sent, 360 heard in 428 copies, 0 silent, 0 punctured, 0 wrong
+all heard bits are right, and only punctured ones silent
+status 0" "$(told "${run[@]}" "$room/examples/roundtrip" "$room/examples/lcr.sheet")"
 
 # ---- Uninstalled: nothing of the kit is left, and what others installed is. ----
 touch "$kit/lib/other.a" "$kit/share/man/man3/other.3"

@@ -2,6 +2,7 @@
  * loop: step 9 by the loop of document 004, subclause 4.2.12.2.1, line by line as it is printed there, beside the library and
  * the reference. Every uplink slot of one or two codes with up to MOST places each, of all spreading factors, and some downlink
  * slots are gathered by both, and the smaller ones named by the library; each place must hold the bit that the loop puts there.
+ * Each slot is the only one of a frame of one sub-frame, and of one of two (1.28 Mcps), in each of which the loop starts anew.
  */
 #include "check.h"
 #include "fields.h"
@@ -10,7 +11,8 @@
 enum {
     MOST = 37,  /* two whole runs of 16 bits and a cut one */
     NAMED = 18, /* places of a code, of which all are named */
-    CODES = 16
+    CODES = 16,
+    ALL = UMV_SUBFRAMES_MOST * 2 * MOST /* places of a frame */
 };
 
 /* All counted from 1, as in the document: capacity and consecutive bits of each code; the code and the place of bit k. */
@@ -49,12 +51,13 @@ static void map(struct slot *slot)
 
 static uint8_t sheet[UMV_SHEET_FORM_MOST];
 static size_t sheet_len;
-static uint32_t places;
+static uint32_t places, all; /* of the slot, and of the frame */
 
-static void make_sheet(const struct slot *slot, uint16_t uplink, const uint16_t *logs)
+static void make_sheet(const struct slot *slot, uint16_t uplink, uint16_t lcr, const uint16_t *logs)
 {
     uint16_t fields[UMV_FIELDS] = {[UMV_FIELD_VERSION] = 1, [UMV_FIELD_CHANNELS] = 1, [UMV_FIELD_SLOTS] = 1, [UMV_FIELD_RM] = 1};
     fields[UMV_FIELD_UPLINK] = uplink;
+    fields[UMV_FIELD_LCR] = lcr;
     fields[UMV_FIELD_PHCHS] = (uint16_t)slot->P;
     places = 0;
     for (uint32_t p = 1; p <= slot->P; p++) {
@@ -62,34 +65,36 @@ static void make_sheet(const struct slot *slot, uint16_t uplink, const uint16_t 
         fields[UMV_FIELD_LOGARITHMS + p - 1] = logs[p - 1];
         places += slot->U[p];
     }
-    fields[UMV_FIELD_E] = (uint16_t)places;
+    fields[UMV_FIELD_MODE] = places % 2; /* both give one and the same frame of a single slot */
+    all = (lcr + 1u) * places;
+    fields[UMV_FIELD_E] = (uint16_t)all;
     sheet_len = (pack(fields, sheet) + 7) / 8;
 }
 
 /* Gathers places that hold their own indices: what comes for each bit, from 0, is the index of its place. */
 static void gather(const struct implementation *tested, float *indices)
 {
-    float frame[2 * MOST];
+    float frame[ALL];
     uint64_t at;
-    for (uint32_t i = 0; i < places; i++)
+    for (uint32_t i = 0; i < all; i++)
         frame[i] = (float)i;
-    CHECK(tested->gather(sheet, sheet_len, frame, places, indices, places, &at) == UMV_OK && at == places);
+    CHECK(tested->gather(sheet, sheet_len, frame, all, indices, all, &at) == UMV_OK && at == all);
 }
 
-/* In which turn of a slot with so many places each bit comes, from 0: it is the place that it has in a single code. */
-static float turns[2 * MOST + 1][2 * MOST];
+/* In which turn of a frame with so many places each bit comes, from 0: it is the place that it has in a single code. */
+static float turns[ALL + 1][ALL];
 
 static void learn_turns(void)
 {
     static const uint16_t none[1] = {0};
-    for (uint32_t count = 1; count <= 2 * MOST; count++) {
+    for (uint32_t count = 1; count <= ALL; count++) {
         struct slot single = {.P = 1, .U = {0, count}};
-        make_sheet(&single, 0, none);
+        make_sheet(&single, 0, 0, none);
         gather(&reference, turns[count]);
     }
 }
 
-/* The index in the frame of the place that bit k goes to. */
+/* The index in the slot of the place that bit k goes to. */
 static uint32_t index_of(const struct slot *slot, uint32_t k)
 {
     uint32_t index = slot->w[k].pos - 1;
@@ -98,23 +103,29 @@ static uint32_t index_of(const struct slot *slot, uint32_t k)
     return index;
 }
 
-static void compare(struct slot *slot, uint16_t uplink, const uint16_t *logs)
+static void compare_frame(const struct slot *slot, uint16_t uplink, uint16_t lcr, const uint16_t *logs)
 {
-    float ours[2 * MOST], theirs[2 * MOST];
+    float ours[ALL], theirs[ALL];
     uint64_t trch, bit, copy;
-    make_sheet(slot, uplink, logs);
-    map(slot);
+    make_sheet(slot, uplink, lcr, logs);
     gather(&library, ours);
     gather(&reference, theirs);
-    for (uint32_t b = 0; b < places; b++) {
-        uint32_t k = (uint32_t)turns[places][b] + 1;
-        CHECK(ours[b] == (float)index_of(slot, k));
-        CHECK(theirs[b] == (float)index_of(slot, k));
+    for (uint32_t b = 0; b < all; b++) {
+        uint32_t turn = (uint32_t)turns[all][b], h = turn / places, k = turn % places + 1;
+        CHECK(ours[b] == (float)(h * places + index_of(slot, k)));
+        CHECK(theirs[b] == (float)(h * places + index_of(slot, k)));
         if (slot->U[1] > NAMED || slot->U[slot->P] > NAMED)
             continue;
-        CHECK(umv_name(sheet, sheet_len, 0, 1, slot->w[k].p, slot->w[k].pos, &trch, &bit, &copy) == UMV_OK);
+        CHECK(umv_name(sheet, sheet_len, 0, h + 1, 1, slot->w[k].p, slot->w[k].pos, &trch, &bit, &copy) == UMV_OK);
         CHECK(trch == 1 && bit == b + 1 && copy == 0);
     }
+}
+
+static void compare(struct slot *slot, uint16_t uplink, const uint16_t *logs)
+{
+    map(slot);
+    compare_frame(slot, uplink, 0, logs);
+    compare_frame(slot, uplink, 1, logs);
 }
 
 /* "The following rule is applied": two codes of these spreading factors. */

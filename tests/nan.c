@@ -3,6 +3,7 @@
  * are over floats with one NaN and cannot say this: it is tested, not proved. No NaN is loaded as a float here, since that may
  * quiet it.
  */
+#include <stdio.h>
 #include <string.h>
 
 #include "check.h"
@@ -27,7 +28,7 @@ static struct channel {
 } channels[CHANNELS];
 
 /* Two slots, of two PhCHs and of one; in uplink the first two have runs of 2 and 1. */
-static void make_sheet(uint16_t mode, uint16_t uplink, const uint16_t *capacities)
+static void make_sheet(uint16_t mode, uint16_t uplink, uint16_t lcr, const uint16_t *capacities)
 {
     static const uint16_t tti[CHANNELS] = {0, 1, 2, 3, 1}, encoded[CHANNELS] = {5, 13, 31, 43, 0};
     uint16_t fields[UMV_FIELDS] = {[UMV_FIELD_VERSION] = 1, [UMV_FIELD_CHANNELS] = CHANNELS, [UMV_FIELD_SLOTS] = 2};
@@ -35,6 +36,7 @@ static void make_sheet(uint16_t mode, uint16_t uplink, const uint16_t *capacitie
     size_t in_joined = 0;
     fields[UMV_FIELD_MODE] = mode;
     fields[UMV_FIELD_UPLINK] = uplink;
+    fields[UMV_FIELD_LCR] = lcr;
     fields[UMV_FIELD_LOGARITHMS + 1] = uplink;
     for (unsigned i = 0; i < CHANNELS; i++) {
         fields[UMV_FIELD_TTI + i] = tti[i];
@@ -163,7 +165,7 @@ static void refuse_finish(uint32_t trch, size_t joined_len, size_t lent_len, uin
 
 static void test_form(void)
 {
-    sheet[1] ^= 1; /* a spare bit */
+    sheet[1] ^= 1; /* the spare bit */
     refuse_gather(capacity, capacity, UMV_FORM, 0);
     refuse_take_back(0, capacity, joined, UMV_FORM, 0);
     refuse_finish(1, joined, channels[0].e, UMV_FORM);
@@ -217,26 +219,32 @@ static void test_contents(void)
         }
 }
 
+static void test_sheet(void)
+{
+    test_finish();
+    for (uint32_t frame_number = 0; frame_number < FRAMES; frame_number++)
+        test_take_back(frame_number);
+    test_take_back(255);
+    test_form();
+    test_absent();
+    test_lengths();
+    test_contents();
+}
+
 int main(void)
 {
-    static const uint16_t capacities[][3] = {{3, 4, 10}, {5, 9, 12}, {20, 19, 21}}; /* punctured, N as they are, repeated */
-    static const char *const names[][4] = {
-        {"punctured, mode 0", "punctured, mode 1", "punctured, uplink, mode 0", "punctured, uplink, mode 1"},
-        {"as it is, mode 0", "as it is, mode 1", "as it is, uplink, mode 0", "as it is, uplink, mode 1"},
-        {"repeated, mode 0", "repeated, mode 1", "repeated, uplink, mode 0", "repeated, uplink, mode 1"}};
+    /* Of each rate, at 3.84 Mcps and of each sub-frame of 1.28 Mcps. */
+    static const uint16_t capacities[3][2][3] = {{{3, 4, 10}, {2, 1, 5}}, {{5, 9, 12}, {4, 5, 4}}, {{20, 19, 21}, {10, 9, 11}}};
+    static const char *const rates[3] = {"punctured", "as it is", "repeated"};
+    static char name[60];
     make_nans();
     for (int rate = 0; rate < 3; rate++)
-        for (uint16_t way = 0; way < 4; way++) {
-            subject = names[rate][way];
-            make_sheet(way % 2, way / 2, capacities[rate]);
-            test_finish();
-            for (uint32_t frame_number = 0; frame_number < FRAMES; frame_number++)
-                test_take_back(frame_number);
-            test_take_back(255);
-            test_form();
-            test_absent();
-            test_lengths();
-            test_contents();
+        for (uint16_t way = 0; way < 8; way++) {
+            uint16_t mode = way % 2, uplink = way / 2 % 2, lcr = way / 4;
+            snprintf(name, sizeof name, "%s, mode %d, uplink %d, 1.28 Mcps %d", rates[rate], mode, uplink, lcr);
+            subject = name;
+            make_sheet(mode, uplink, lcr, capacities[rate][lcr]);
+            test_sheet();
         }
     return report("nan");
 }

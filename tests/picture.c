@@ -14,6 +14,7 @@
 #include "ummervia.h"
 
 enum { MOST = 60000, DEEPEST = 8, MOST_LINES = 100, LINE = 1000 }; /* LINE: px of a full line of cells */
+enum { HALVES = UMV_SUBFRAMES_MOST };                              /* counted from 0, as slots and PhCHs are in arrays */
 
 /* What is drawn at a place: the channels, copy marks, filler boxes and their holes, each counted. */
 struct look {
@@ -32,7 +33,7 @@ struct reader {
     unsigned depth;
     struct phch *group;
     long bottom;
-    unsigned slot, phch, starts;
+    unsigned subframe, slot, phch, starts;
     struct {
         unsigned place;
         long y;
@@ -45,7 +46,7 @@ static uint16_t fields[UMV_FIELDS];
 static uint64_t channels, capacity;
 static uint32_t frame_number;
 static struct look looks[MOST], wanted[MOST];
-static struct phch phchs[15][16];
+static struct phch phchs[HALVES][15][16];
 static char text[1 << 23];
 
 static void fail(const char *format, ...)
@@ -115,12 +116,13 @@ static void expect(void)
 static void place_phchs(void)
 {
     unsigned first = 0;
-    for (unsigned t = 0; t < fields[UMV_FIELD_SLOTS]; t++)
-        for (unsigned p = 0; p < fields[UMV_FIELD_PHCHS + t]; p++) {
-            phchs[t][p].capacity = fields[UMV_FIELD_CAPACITIES + 16 * t + p];
-            phchs[t][p].first = first;
-            first += phchs[t][p].capacity;
-        }
+    for (unsigned h = 0; h <= fields[UMV_FIELD_LCR]; h++)
+        for (unsigned t = 0; t < fields[UMV_FIELD_SLOTS]; t++)
+            for (unsigned p = 0; p < fields[UMV_FIELD_PHCHS + t]; p++) {
+                phchs[h][t][p].capacity = fields[UMV_FIELD_CAPACITIES + 16 * t + p];
+                phchs[h][t][p].first = first;
+                first += phchs[h][t][p].capacity;
+            }
 }
 
 /* An attribute of a tag, or NULL; ends with the quote. */
@@ -149,13 +151,25 @@ static void check_head(unsigned t, const char *label)
         fail("slot %u has another label than %s", t, head);
 }
 
-/* A label: of a slot, of a PhCH, or of the place that a line begins with. */
+/* The label of a sub-frame, below what was drawn of the one before; only a frame of two has such labels. */
+static void check_subframe(struct reader *reader, const char *label, long y)
+{
+    char head[32];
+    snprintf(head, sizeof head, "sub-frame %u<", ++reader->subframe);
+    if (fields[UMV_FIELD_LCR] == 0 || strncmp(label, head, strlen(head)) != 0 || y < reader->bottom)
+        fail("another label than %s, or too high", head);
+    reader->slot = 0;
+}
+
+/* A label: of a sub-frame, of a slot, of a PhCH, or of the place that a line begins with. */
 static void take_label(struct reader *reader, const char *tag, const char *label)
 {
     const char *class = attribute(tag, "class"), *y = attribute(tag, "y");
     if (class == NULL || y == NULL)
         return;
-    if (*class == 's') {
+    if (strncmp(label, "sub-frame", 9) == 0) {
+        check_subframe(reader, label, strtol(y, NULL, 10));
+    } else if (*class == 's') {
         sscanf(label, "slot %u", &reader->slot);
         check_head(reader->slot, label);
     }
@@ -170,14 +184,22 @@ static void take_label(struct reader *reader, const char *tag, const char *label
 /* The labels before the group of a PhCH, the middle of whose first line is at y. */
 static void check_labels(struct reader *reader, unsigned t, unsigned p, unsigned lines, long y, long height)
 {
+    const struct phch *phch = reader->group;
     if (reader->slot != t || reader->phch != p || reader->starts != lines)
         fail("slot %u PhCH %u has the labels of slot %u PhCH %u, and %u lines", t, p, reader->slot, reader->phch,
              reader->starts);
     for (unsigned i = 0; i < lines; i++, y += height)
-        if (reader->start[i].place != LINE / phchs[t - 1][p - 1].width * i + 1 ||
-            labs(reader->start[i].y - y) > height / 2)
+        if (reader->start[i].place != LINE / phch->width * i + 1 || labs(reader->start[i].y - y) > height / 2)
             fail("slot %u PhCH %u line %u: wrong label", t, p, i + 1);
     reader->phch = reader->starts = 0;
+}
+
+/* Whether a group's id is that of slot t and PhCH p in the sub-frame at work, which it says where there are two. */
+static bool is_id(const struct reader *reader, const char *id, unsigned *t, unsigned *p)
+{
+    unsigned h = 0;
+    bool formed = fields[UMV_FIELD_LCR] == 0 ? sscanf(id, "s%up%u\"", t, p) == 2 : sscanf(id, "h%us%up%u\"", &h, t, p) == 3;
+    return formed && h == reader->subframe && *t - 1 < 15 && *p - 1 < 16;
 }
 
 /* The group of a PhCH's cells: units of cells, below all that was drawn before it. */
@@ -186,19 +208,19 @@ static void open_group(struct reader *reader, const char *tag)
     unsigned t, p, left, width;
     long middle, height;
     const char *transform = attribute(tag, "transform");
-    if (sscanf(attribute(tag, "id"), "s%up%u\"", &t, &p) != 2 || t - 1 >= 15 || p - 1 >= 16 || transform == NULL ||
+    if (!is_id(reader, attribute(tag, "id"), &t, &p) || transform == NULL ||
         sscanf(transform, "translate(%u %ld)scale(%u %ld)\"", &left, &middle, &width, &height) != 4)
         fail("what is <%s>?", tag);
-    struct phch *phch = &phchs[t - 1][p - 1];
+    struct phch *phch = &phchs[reader->subframe == 2][t - 1][p - 1];
     if (phch->capacity == 0 || phch->groups++ > 0)
         fail("slot %u PhCH %u is drawn that should not be", t, p);
     if (middle - height / 2 < reader->bottom)
         fail("slot %u PhCH %u lies over the one before", t, p);
     unsigned lines = (phch->capacity * width + LINE - 1) / LINE;
     phch->width = width;
+    reader->group = phch;
     check_labels(reader, t, p, lines, middle, height);
     reader->bottom = middle - height / 2 + lines * height;
-    reader->group = phch;
 }
 
 static void mark(struct look *look, const char *class)
@@ -303,36 +325,37 @@ static void read_picture(void)
 
 /* ---- The comparison ---- */
 
-static void compare_place(unsigned t, unsigned p, unsigned place)
+static void compare_place(unsigned h, unsigned t, unsigned p, unsigned place)
 {
-    const struct look *is = &looks[phchs[t][p].first + place], *should = &wanted[phchs[t][p].first + place];
+    const struct look *is = &looks[phchs[h][t][p].first + place], *should = &wanted[phchs[h][t][p].first + place];
     if (memcmp(is, should, sizeof *is) != 0)
-        fail("slot %u PhCH %u place %u: channel %u (drawn %u times), copy %u, filler %u, hole %u; not %u, %u, %u",
-             t + 1, p + 1, place + 1, is->channel, is->channels, is->copies, is->fillers, is->holes, should->channel,
+        fail("sub-frame %u slot %u PhCH %u place %u: channel %u (drawn %u times), copy %u, filler %u, hole %u; not %u, %u, %u",
+             h + 1, t + 1, p + 1, place + 1, is->channel, is->channels, is->copies, is->fillers, is->holes, should->channel,
              should->copies, should->fillers);
 }
 
 /* The same by the reference's name, which builds a whole frame for each place: a large frame has only some asked. */
-static void compare_name(unsigned t, unsigned p, unsigned place)
+static void compare_name(unsigned h, unsigned t, unsigned p, unsigned place)
 {
-    const struct look *is = &looks[phchs[t][p].first + place];
+    const struct look *is = &looks[phchs[h][t][p].first + place];
     uint64_t trch, bit, copy;
-    if (ref_name(sheet, sheet_len, frame_number, t + 1, p + 1, place + 1, &trch, &bit, &copy) != 0)
-        fail("the reference knows no slot %u PhCH %u place %u", t + 1, p + 1, place + 1);
+    if (ref_name(sheet, sheet_len, frame_number, h + 1, t + 1, p + 1, place + 1, &trch, &bit, &copy) != 0)
+        fail("the reference knows no sub-frame %u slot %u PhCH %u place %u", h + 1, t + 1, p + 1, place + 1);
     if (is->channel != trch || is->copies != (copy > 0) || is->fillers != (bit > fields[UMV_FIELD_E + trch - 1]))
-        fail("slot %u PhCH %u place %u is not named so", t + 1, p + 1, place + 1);
+        fail("sub-frame %u slot %u PhCH %u place %u is not named so", h + 1, t + 1, p + 1, place + 1);
 }
 
 static void compare_places(void)
 {
     unsigned index = 0, step = capacity < 3000 ? 1 : 401;
-    for (unsigned t = 0; t < 15; t++)
-        for (unsigned p = 0; p < 16; p++)
-            for (unsigned place = 0; place < phchs[t][p].capacity; place++, index++) {
-                compare_place(t, p, place);
-                if (index % step == 0)
-                    compare_name(t, p, place);
-            }
+    for (unsigned phch = 0; phch < HALVES * 15 * 16; phch++) {
+        unsigned h = phch / 240, t = phch / 16 % 15, p = phch % 16;
+        for (unsigned place = 0; place < phchs[h][t][p].capacity; place++, index++) {
+            compare_place(h, t, p, place);
+            if (index % step == 0)
+                compare_name(h, t, p, place);
+        }
+    }
 }
 
 /* A channel's line in the legend, behind a cell of its colour. */
@@ -377,10 +400,10 @@ static void compare_title(void)
     const unsigned mode = fields[UMV_FIELD_MODE];
     char title[160];
     snprintf(title, sizeof title,
-             ">UTRA TDD %sradio frame, frame number %" PRIu32 ", mode %u (second interleaving %s), D = %" PRIu64
+             ">UTRA TDD %sradio frame%s, frame number %" PRIu32 ", mode %u (second interleaving %s), D = %" PRIu64
              " places</text>",
-             fields[UMV_FIELD_UPLINK] == 1 ? "uplink " : "", frame_number, mode, mode == 0 ? "over the frame" : "per slot",
-             capacity);
+             fields[UMV_FIELD_UPLINK] == 1 ? "uplink " : "", fields[UMV_FIELD_LCR] == 1 ? " of 1.28 Mcps" : "", frame_number,
+             mode, mode == 0 ? "over the frame" : "per slot", capacity);
     if (strstr(text, title) == NULL)
         fail("no title %s", title);
 }
@@ -399,19 +422,25 @@ static const struct {
     uint16_t mode, slots;
     uint16_t channels[UMV_CHANNELS_MOST][3]; /* TTI, E, RM */
     uint16_t capacities[16];
-    uint16_t uplink, logs[2];
+    uint16_t uplink, logs[2], lcr;
 } sheets[] = {
-    {"244", 0, 1, {{1, 599, 200}}, {244}, 0, {0}},
-    {"244-repeated", 1, 1, {{3, 395, 200}}, {244}, 0, {0}},
-    {"2440", 0, 5, {{0, 800, 180}, {1, 1601, 200}, {0, 0, 7}, {2, 2403, 100}}, {244, 244}, 0, {0}},
-    {"2440-slots", 1, 2, {{0, 400, 180}, {1, 1601, 200}, {2, 2403, 100}, {3, 1, 256}}, {244, 1, 500, 231, 244}, 0, {0}},
-    {"60000", 0, 15, EIGHT, {4000}, 0, {0}},
-    {"60000-codes", 1, 15, EIGHT, CODES, 0, {0}},
-    {"sixteen", 1, 4, SIXTEEN, {244, 244, 244, 122}, 0, {0}},
-    {"uplink-sixteen", 0, 4, SIXTEEN, {976, 122}, 1, {0, 3}},
-    {"uplink-single", 0, 3, {{0, 800, 180}, {1, 1601, 200}}, {244}, 1, {4}},
-    {"uplink-first", 1, 3, {{0, 800, 180}, {1, 1601, 200}}, {490, 244}, 1, {2, 4}}, /* runs of 4 and 1, the last one cut short */
-    {"uplink-second", 0, 3, {{0, 800, 180}, {1, 1601, 200}}, {244, 2000}, 1, {4, 0}},
+    {"244", 0, 1, {{1, 599, 200}}, {244}, 0, {0}, 0},
+    {"244-repeated", 1, 1, {{3, 395, 200}}, {244}, 0, {0}, 0},
+    {"2440", 0, 5, {{0, 800, 180}, {1, 1601, 200}, {0, 0, 7}, {2, 2403, 100}}, {244, 244}, 0, {0}, 0},
+    {"2440-slots", 1, 2, {{0, 400, 180}, {1, 1601, 200}, {2, 2403, 100}, {3, 1, 256}}, {244, 1, 500, 231, 244}, 0, {0}, 0},
+    {"60000", 0, 15, EIGHT, {4000}, 0, {0}, 0},
+    {"60000-codes", 1, 15, EIGHT, CODES, 0, {0}, 0},
+    {"sixteen", 1, 4, SIXTEEN, {244, 244, 244, 122}, 0, {0}, 0},
+    {"uplink-sixteen", 0, 4, SIXTEEN, {976, 122}, 1, {0, 3}, 0},
+    {"uplink-single", 0, 3, {{0, 800, 180}, {1, 1601, 200}}, {244}, 1, {4}, 0},
+    {"uplink-first", 1, 3, {{0, 800, 180}, {1, 1601, 200}}, {490, 244}, 1, {2, 4}, 0}, /* runs of 4 and 1, the last one cut short */
+    {"uplink-second", 0, 3, {{0, 800, 180}, {1, 1601, 200}}, {244, 2000}, 1, {4, 0}, 0},
+    {"lcr", 0, 7, {{0, 800, 180}, {1, 1601, 200}, {0, 0, 7}, {2, 2403, 100}}, {88, 88, 44}, 0, {0}, 1},
+    {"lcr-small", 1, 2, {{1, 243, 240}, {0, 96, 150}}, {61, 60}, 0, {0}, 1},
+    {"lcr-60000", 1, 5, EIGHT, {375, 375, 375, 375, 375, 375, 375, 375, 375, 375, 375, 375, 375, 375, 375, 375}, 0, {0}, 1},
+    {"lcr-sixteen", 0, 4, SIXTEEN, {244, 244, 61}, 0, {0}, 1},
+    {"lcr-uplink", 1, 3, {{0, 800, 180}, {1, 1601, 200}}, {245, 122}, 1, {2, 4}, 1},
+    {"lcr-uplink-single", 0, 7, {{0, 80, 180}, {1, 161, 200}}, {22}, 1, {3}, 1},
 };
 
 static void make_sheet(unsigned k)
@@ -422,6 +451,7 @@ static void make_sheet(unsigned k)
     fields[UMV_FIELD_MODE] = sheets[k].mode;
     fields[UMV_FIELD_SLOTS] = sheets[k].slots;
     fields[UMV_FIELD_UPLINK] = sheets[k].uplink;
+    fields[UMV_FIELD_LCR] = sheets[k].lcr;
     for (unsigned i = 0; i < UMV_CHANNELS_MOST && sheets[k].channels[i][2] != 0; i++) {
         fields[UMV_FIELD_CHANNELS]++;
         fields[UMV_FIELD_TTI + i] = sheets[k].channels[i][0];
@@ -467,7 +497,7 @@ int main(int argc, char **argv)
     frame_number = (uint32_t)strtoul(argv[2], NULL, 10);
     if (read_file(argv[3], text, sizeof text - 1) == sizeof text - 1)
         fail("%s is too long", argv[3]);
-    uint32_t number = ref_name(sheet, sheet_len, frame_number, 1, 1, 1, &trch, &bit, &copy);
+    uint32_t number = ref_name(sheet, sheet_len, frame_number, 1, 1, 1, 1, &trch, &bit, &copy);
     snprintf(refused, sizeof refused, ">refused: number %" PRIu32 " (", number);
     if ((strstr(text, refused) != NULL) != (number != 0))
         fail("the reference answers %" PRIu32, number);

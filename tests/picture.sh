@@ -27,7 +27,7 @@ for sheet in "$room"/*.sheet examples/*.sheet; do
 done
 
 # Refused: sheets that are empty, of another version, cut short, without a bit, with a logarithm of 5 or the most uplink codes that a
-# form can have; frame numbers that are none.
+# form can have, of eight slots of 1.28 Mcps; frame numbers that are none.
 printf '' >"$room/1" && try "$room/1" 0
 printf '\x20\x10\x00\x06\x00\x00\x04' >"$room/2" && try "$room/2" 0
 printf '\x10\x00\x00\x06\x00' >"$room/3" && try "$room/3" 0
@@ -36,6 +36,7 @@ printf '\x10\x10\x00\x06\x00\x00\x00' >"$room/5" && try "$room/5" 0
 printf '\x10\x10\x00\x00\x00\x00\x04' >"$room/8" && try "$room/8" 0
 printf '\x10\x18\x00\x06\x00\x0a\x00\x80' >"$room/13" && try "$room/13" 0
 { printf '\x17\xfa' && printf '\x3f\xff\x00%.0s' {1..16} && printf '\xff%.0s' {1..457} && printf '\xf0'; } >"$room/508" && try "$room/508" 0
+{ printf '\x10\x84\x00\x06\x00' && printf '\x00\x04%.0s' {1..8}; } >"$room/14" && try "$room/14" 0
 for argument in 256 1000 100000000000000000000 -1 7x ''; do try examples/example.sheet 256 "$argument"; done
 
 # Without an argument it is frame 0. The picture of docs/ and the program's own case are what they say.

@@ -72,6 +72,8 @@ static uint32_t draw_number(char parameter)
         return draw_frame_number();
     case 'c':
         return trch = count_near(drawn.channels);
+    case 'h':
+        return count_near(drawn.subframes);
     case 't':
         return slot = count_near(drawn.slots);
     case 'p':
@@ -163,7 +165,7 @@ static uint32_t draw_place(void)
 {
     switch (between(1, 4)) {
     case 1:
-        return between(0, UMV_FIELD_UPLINK);
+        return between(0, UMV_FIELD_LCR);
     case 2:
         return between(UMV_FIELD_LOGARITHMS, UMV_FIELD_LOGARITHMS + 1);
     default:

@@ -7,7 +7,7 @@
 enum { OFFSETS = 8 }; /* addresses modulo 8 */
 
 /* Why 13 was given; where it was given though a later line holds, and 5 though its line holds; from TOO_LONG on, of fields
-   alone. */
+   alone. Then the same of 14. */
 enum uplink {
     BY_CODES,   /* more than two codes, and no logarithm over 4 */
     BY_LOG,     /* a logarithm over 4, and no more than two codes */
@@ -20,6 +20,21 @@ enum uplink {
     UPLINKS
 };
 
+enum lcr {
+    SLOTS_BEFORE_6, /* 14, where 6 holds too */
+    SLOTS_BEFORE_7,
+    SLOTS_BEFORE_8,
+    SLOTS_BEHIND_5, /* 5, where 14 holds too */
+    SLOTS_BEHIND_13,
+    BY_BOTH,     /* 7, though one sub-frame alone has no more than 60,000 bits */
+    OPTION_OVER, /* of fields alone: 4 for a 1.28 Mcps field over 1 */
+    SECOND,      /* of a name alone: accepted in sub-frame 2 */
+    NONE,        /* 10 for sub-frame 0, as in the next two though slot, PhCH and place are there */
+    NO_SECOND,   /* 10 for sub-frame 2 of 3.84 Mcps */
+    NO_THIRD,    /* 10 for sub-frame 3 of 1.28 Mcps */
+    LCRS
+};
+
 static struct {
     unsigned long numbers[NUMBERS];
     unsigned long kinds[KINDS];                 /* accepted on such a sheet, with such a channel */
@@ -27,6 +42,7 @@ static struct {
     unsigned long places[MOST_SLICES][OFFSETS]; /* where slices were lent */
     unsigned long greatest[MOST_WHOLE + 1];     /* 2^32 - 1 that drew 9 or 10; last, 2^64 - 1 that drew 11 */
     unsigned long uplink[UPLINKS];              /* what has to do with number 13 */
+    unsigned long lcr[LCRS];                    /* what has to do with number 14, and with sub-frames */
 } met[CALLS];
 
 /* ---- Counting ---- */
@@ -52,12 +68,12 @@ static uint64_t trch_of(const struct call *call, const struct given *given, cons
     return takes(call, 'u') ? answer->at[0].whole : 0;
 }
 
-static uint32_t kinds_of(const struct call *call, const struct given *given, const struct answer *answer)
+static uint64_t kinds_of(const struct call *call, const struct given *given, const struct answer *answer)
 {
     if (takes(call, 'f') && !of_sheet(given->slices[0].start))
         return 0;
     uint64_t trch = trch_of(call, given, answer);
-    uint32_t kinds = drawn.kinds;
+    uint64_t kinds = drawn.kinds;
     for (uint32_t i = 0; i < drawn.channels; i++)
         if (trch == 0 || trch == i + 1)
             kinds |= drawn.channel_kinds[i];
@@ -79,8 +95,8 @@ static bool many_codes(const uint16_t *fields, uint32_t *greatest_log)
     return many;
 }
 
-/* Which of the lines 6, 7 and 8 hold of fields in their ranges. */
-static uint32_t sums_of(const uint16_t *fields)
+/* Which of the lines 6, 7 and 8 hold of fields in their ranges, for a frame of so many sub-frames. */
+static uint32_t sums_of(const uint16_t *fields, uint64_t subframes)
 {
     uint64_t joined = 0, capacity = 0;
     for (uint32_t i = 0; i < fields[UMV_FIELD_CHANNELS]; i++) {
@@ -89,14 +105,14 @@ static uint32_t sums_of(const uint16_t *fields)
     }
     for (uint32_t t = 0; t < fields[UMV_FIELD_SLOTS]; t++)
         for (uint32_t p = 0; p < fields[UMV_FIELD_PHCHS + t]; p++)
-            capacity += fields[UMV_FIELD_CAPACITIES + 16 * t + p];
+            capacity += subframes * fields[UMV_FIELD_CAPACITIES + 16 * t + p];
     return (uint32_t)(joined > 60000) << 6 | (uint32_t)(capacity > 60000) << 7 | (uint32_t)(joined == 0) << 8;
 }
 
 /* What a call met that has these fields, of which no line before 5 holds. */
 static void count_uplink(size_t call, const uint16_t *fields, uint64_t number)
 {
-    uint32_t log, sums = sums_of(fields);
+    uint32_t log, sums = sums_of(fields, fields[UMV_FIELD_LCR] + 1u);
     bool uplink = fields[UMV_FIELD_UPLINK] == 1, many = many_codes(fields, &log);
     unsigned long *counts = met[call].uplink;
     counts[BEHIND_5] += number == UMV_NO_CAPACITY && uplink && (many || log > 4);
@@ -110,14 +126,49 @@ static void count_uplink(size_t call, const uint16_t *fields, uint64_t number)
         counts[BEFORE_6 + line - 6] += sums >> line & 1;
 }
 
+static void count_lcr(size_t call, const uint16_t *fields, uint64_t number)
+{
+    bool lcr = fields[UMV_FIELD_LCR] == 1, many = lcr && fields[UMV_FIELD_SLOTS] > UMV_SUBFRAME_SLOTS_MOST;
+    uint32_t sums = sums_of(fields, fields[UMV_FIELD_LCR] + 1u);
+    unsigned long *counts = met[call].lcr;
+    counts[SLOTS_BEHIND_5] += number == UMV_NO_CAPACITY && many;
+    counts[SLOTS_BEHIND_13] += number == UMV_UPLINK_CODES && many;
+    counts[BY_BOTH] += number == UMV_MUCH_CAPACITY && lcr && (sums_of(fields, 1) >> 7 & 1) == 0;
+    for (unsigned line = 6; line <= 8; line++)
+        counts[SLOTS_BEFORE_6 + line - 6] += number == UMV_SUBFRAME_SLOTS && (sums >> line & 1);
+}
+
 /* The fields that the call was given, or those of its sheet, if it was not damaged. */
 static void count_fields(size_t call, const struct given *given, uint64_t number)
 {
-    bool asked = number == UMV_OK || number == UMV_NO_CAPACITY || number == UMV_UPLINK_CODES;
-    if (asked && takes(&calls[call], 'f'))
-        count_uplink(call, given->slices[0].start, number);
-    else if (asked && !drawn.damaged)
-        count_uplink(call, drawn.fields, number);
+    bool given_fields = takes(&calls[call], 'f');
+    const uint16_t *fields = given_fields ? given->slices[0].start : drawn.fields;
+    bool asked = number == UMV_OK || (number >= UMV_NO_CAPACITY && number <= UMV_NO_CONTENT) ||
+                 number == UMV_UPLINK_CODES || number == UMV_SUBFRAME_SLOTS;
+    met[call].lcr[OPTION_OVER] += given_fields && number == UMV_FORM && fields[UMV_FIELD_LCR] > 1;
+    if (!asked || (drawn.damaged && !given_fields))
+        return;
+    count_uplink(call, fields, number);
+    count_lcr(call, fields, number);
+}
+
+/* The sub-frame that a name was asked in. */
+static void count_subframe(size_t call, const struct given *given, uint64_t number)
+{
+    if (!takes(&calls[call], 'h'))
+        return;
+    unsigned long *counts = met[call].lcr;
+    uint32_t subframe = given->whole[1]; /* behind the frame number */
+    counts[SECOND] += number == UMV_OK && subframe == 2;
+    /* Whether it is the sub-frame alone that is not there. */
+    struct given first = *given;
+    struct answer answer;
+    first.whole[1] = 1;
+    if (number != UMV_ABSENT || calls[call].run(&reference, &first, &answer) != UMV_OK)
+        return;
+    counts[NONE] += subframe == 0;
+    counts[NO_SECOND] += subframe == 2;
+    counts[NO_THIRD] += subframe == 3;
 }
 
 static void count_empty(size_t call, const struct given *given, uint64_t number)
@@ -148,9 +199,10 @@ void count_call(size_t call, const struct given *given, const struct answer *ans
     count_empty(call, given, answer->number);
     count_greatest(call, given, answer->number);
     count_fields(call, given, answer->number);
+    count_subframe(call, given, answer->number);
     if (answer->number != UMV_OK)
         return;
-    uint32_t kinds = kinds_of(&calls[call], given, answer);
+    uint64_t kinds = kinds_of(&calls[call], given, answer);
     for (int kind = 0; kind < KINDS; kind++)
         met[call].kinds[kind] += kinds >> kind & 1;
 }
@@ -188,6 +240,17 @@ static unsigned print_run(size_t call, size_t column)
     return print_kind(call, FULL_UPLINK + column);
 }
 
+static unsigned print_lcr_kind(size_t call, size_t column)
+{
+    return print_kind(call, LCR_FRAME + column);
+}
+
+static unsigned print_lcr(size_t call, size_t column)
+{
+    bool possible = column < OPTION_OVER || takes(&calls[call], column == OPTION_OVER ? 'f' : 'h');
+    return print_count(possible, met[call].lcr[column]);
+}
+
 static unsigned print_uplink(size_t call, size_t column)
 {
     return print_count(column < TOO_LONG || takes(&calls[call], 'f'), met[call].uplink[column]);
@@ -220,7 +283,7 @@ static unsigned print_greatest(size_t call, char letter)
 static unsigned print_parameter(size_t call, size_t column)
 {
     size_t of_slices = 2 * MOST_SLICES;
-    return column < of_slices ? print_slice(call, column) : print_greatest(call, "nctpuml"[column - of_slices]);
+    return column < of_slices ? print_slice(call, column) : print_greatest(call, "nchtpuml"[column - of_slices]);
 }
 
 static unsigned print_table(const char *title, const char *const *heads, size_t columns,
@@ -242,29 +305,46 @@ static unsigned print_table(const char *title, const char *const *heads, size_t 
     return missing;
 }
 
-unsigned report_met(void)
+/* Of accepted calls: what kinds of sheet and channel they met. */
+static unsigned report_kinds(void)
 {
-    static const char *const numbers[] = {"0", "1", "2", "3", "4", "5", "6", "7", "8", "9", "10", "11", "12", "13"};
     static const char *const kinds[] = {"mode 0", "mode 1", "418", "I = 8", "I = 9", "I = 16", "D", "T",
                                         "TrCH 9", "E = 0",  "V < N",  "V = N", "V > N", "1,000", "q odd", "q even", "F | q"};
-    static const char *const parameters[] = {"1st",  "offset", "2nd",  "offset", "3rd", "offset", "frame",
-                                             "TrCH", "slot",   "PhCH", "place",  "bit", "length"};
     static const char *const runs[] = {"D",   "1 code", "1, 1", "2, 1",  "4, 1",  "8, 1", "16, 1", "1, 2",
                                        "1, 4", "1, 8",   "1, 16", "cut 1", "cut 2", "long",  "short"};
-    static const char *const uplinks[] = {"codes", "log", "13, 6", "13, 7", "13, 8", "5, 13", "log>7", "unseen"};
-    unsigned missing = print_table("Numbers answered", numbers, NUMBERS, print_number);
-    missing += print_table("Accepted: sheets of both modes, of 418 bytes, of 8, 9 and 16 channels, D and sums of T_i of 60,000;\n"
-                           "channels that are behind the eighth, empty, punctured, unaltered, repeated, of which a bit is sent\n"
-                           "1,000 times or more, and, in TTIs of several frames, with a q that is odd, even and no multiple of F,\n"
-                           "and a multiple of F",
-                           kinds, FULL_UPLINK, print_kind);
+    static const char *const lcr[] = {"mode 0", "mode 1", "T = 7", "I = 16", "D", "1 code", "runs", "cut"};
+    unsigned missing = print_table(
+        "Accepted: sheets of both modes, of 418 bytes, of 8, 9 and 16 channels, D and sums of T_i of 60,000;\n"
+        "channels that are behind the eighth, empty, punctured, unaltered, repeated, of which a bit is sent\n"
+        "1,000 times or more, and, in TTIs of several frames, with a q that is odd, even and no multiple of F,\n"
+        "and a multiple of F",
+        kinds, sizeof kinds / sizeof *kinds, print_kind);
     missing += print_table("Accepted: uplink sheets of 60,000 places; with a slot of one code, of two that take so many bits at\n"
                            "their turns (the one with a run has a whole turn), of two of which this one fills up in mid-run,\n"
                            "of two of which the one with the longer run, or with the shorter, is full and passed over",
                            runs, sizeof runs / sizeof *runs, print_run);
+    missing += print_table("Accepted: 1.28 Mcps sheets of several slots in both modes, of 7 slots, 16 channels, 60,000 places;\n"
+                           "uplink ones with a slot of one code, of two of which one has runs, of one that fills up in mid-run",
+                           lcr, sizeof lcr / sizeof *lcr, print_lcr_kind);
+    return missing;
+}
+
+unsigned report_met(void)
+{
+    static const char *const numbers[] = {"0", "1", "2", "3", "4", "5", "6", "7", "8", "9", "10", "11", "12", "13", "14"};
+    static const char *const parameters[] = {"1st",  "offset", "2nd",  "offset", "3rd",   "offset", "frame",
+                                             "TrCH", "sub-f.", "slot", "PhCH",   "place", "bit",    "length"};
+    static const char *const uplinks[] = {"codes", "log", "13, 6", "13, 7", "13, 8", "5, 13", "log>7", "unseen"};
+    static const char *const lcrs[] = {"14, 6", "14, 7", "14, 8", "5, 14", "13, 14", "both", "over 1",
+                                       "second", "0th",  "no 2nd", "no 3rd"};
+    unsigned missing = print_table("Numbers answered", numbers, NUMBERS, print_number);
+    missing += report_kinds();
     missing += print_table("Refused with 13 for many codes alone, for a logarithm alone, where 6, 7 or 8 holds too; with 5\n"
                            "where 13 holds too; of fields, 13 for a logarithm over 7; downlink fields with logarithms over 4",
                            uplinks, UPLINKS, print_uplink);
+    missing += print_table("Refused with 14 where 6, 7 or 8 holds too, with 5 and 13 where 14 does; with 7 for both sub-frames\n"
+                           "together; of fields, 4 for the 1.28 Mcps field; of names, sub-frame 2, and 10 for sub-frame 0, 2 and 3",
+                           lcrs, LCRS, print_lcr);
     missing += print_table("Slices that were empty, each lent with a valid, a null and another pointer; slices at the rarest\n"
                            "offset that their type allows; numbers of 2^32 - 1 and lengths of 2^64 - 1 that drew a refusal",
                            parameters, sizeof parameters / sizeof *parameters, print_parameter);

@@ -21,8 +21,11 @@ static void random_channels(uint32_t most_e)
     }
 }
 
+/* Of 1.28 Mcps mostly no more slots than a sub-frame has; of great frames more draw 14, since these may have other lines too. */
 static void random_slots(uint32_t most_slots, uint32_t most_capacity)
 {
+    if (fields[UMV_FIELD_LCR] == 1 && most_slots > UMV_SUBFRAME_SLOTS_MOST && !one_in(most_capacity > 60 ? 2 : 4))
+        most_slots = UMV_SUBFRAME_SLOTS_MOST;
     fields[UMV_FIELD_SLOTS] = (uint16_t)between(1, most_slots);
     for (uint32_t t = 0; t < fields[UMV_FIELD_SLOTS]; t++) {
         uint32_t phchs = between(1, 16), equal = one_in(3) ? between(1, most_capacity) : 0;
@@ -34,12 +37,15 @@ static void random_slots(uint32_t most_slots, uint32_t most_capacity)
     }
 }
 
-/* Just 60,000 bits in sum, or one more. */
+/* Just 60,000 bits in sum, or one more in each sub-frame; of 1.28 Mcps at times too many slots. */
 static void fullest_slots(bool too_many)
 {
-    fill_slots(fields, 250);
+    if (fields[UMV_FIELD_LCR] == 1 && one_in(2))
+        fill_slots(fields, 5, 375);
+    else
+        fill_slots(fields, 15, 250);
     if (too_many)
-        fields[UMV_FIELD_CAPACITIES + between(0, 239)]++;
+        fields[UMV_FIELD_CAPACITIES + between(0, 16u * fields[UMV_FIELD_SLOTS] - 1)]++;
 }
 
 /* 8 channels of 7,500 bits, or 16 of 3,750: just 60,000 equalised, since F divides both, or more. */
@@ -71,6 +77,7 @@ static void few_bits(void)
    60,000 bits in sum. */
 static void random_uplink(bool fullest, bool too_many, uint32_t most_log)
 {
+    uint32_t codes = 2u * fields[UMV_FIELD_SLOTS] * (fields[UMV_FIELD_LCR] + 1u); /* of a fullest frame */
     fields[UMV_FIELD_UPLINK] = 1;
     for (uint32_t t = 0; t < fields[UMV_FIELD_SLOTS]; t++) {
         uint16_t *phchs = &fields[UMV_FIELD_PHCHS + t];
@@ -79,7 +86,7 @@ static void random_uplink(bool fullest, bool too_many, uint32_t most_log)
         for (uint32_t p = 0; p < *phchs; p++) {
             fields[UMV_FIELD_LOGARITHMS + 16 * t + p] = (uint16_t)between(0, most_log);
             if (fullest && !too_many)
-                fields[UMV_FIELD_CAPACITIES + 16 * t + p] = 2000;
+                fields[UMV_FIELD_CAPACITIES + 16 * t + p] = (uint16_t)(60000 / codes);
         }
     }
 }
@@ -90,13 +97,14 @@ static void random_fields(void)
     memset(fields, 0, sizeof drawn.fields);
     fields[UMV_FIELD_VERSION] = 1;
     fields[UMV_FIELD_MODE] = (uint16_t)between(0, 1);
+    fields[UMV_FIELD_LCR] = one_in(3);
     uint32_t kind = between(1, 400);
     if (kind <= 1) {
         few_bits();
         fullest_slots(false);
     } else if (kind <= 10) {
         fullest_channels(one_in(3));
-        fullest_slots(one_in(3));
+        fullest_slots(one_in(fields[UMV_FIELD_LCR] == 1 ? 2 : 3));
     } else if (kind <= 18) {
         random_channels(16383);
         random_slots(15, 4095);
@@ -111,7 +119,7 @@ static void random_fields(void)
         random_slots(one_in(2) ? 15 : 2, one_in(2) ? 12 : 60);
     }
     /* One channel that fits exactly: d = 0. */
-    uint32_t first = fields[UMV_FIELD_CAPACITIES];
+    uint32_t first = fields[UMV_FIELD_CAPACITIES] * (fields[UMV_FIELD_LCR] + 1u);
     if (one_in(40)) {
         fields[UMV_FIELD_CHANNELS] = fields[UMV_FIELD_SLOTS] = fields[UMV_FIELD_PHCHS] = 1;
         fields[UMV_FIELD_E] = (uint16_t)(first << fields[UMV_FIELD_TTI] & 0x3fff);
@@ -119,19 +127,21 @@ static void random_fields(void)
     /* Of great frames more are refused with 13, since these may have other lines too. */
     uint32_t rare = kind <= 18 ? 3 : 8;
     if (one_in(3))
-        random_uplink(kind <= 10 && fields[UMV_FIELD_SLOTS] == 15, one_in(rare), one_in(rare) ? 7 : 4);
+        random_uplink(kind <= 10 && fields[UMV_FIELD_SLOTS] >= 5, one_in(rare), one_in(rare) ? 7 : 4);
 }
 
 /* Fields that name their refusal and still stand in a sheet. */
 static void damage_fields(void)
 {
+    /* More of those that draw 14 have another line too, since they are few. */
+    bool many_slots = fields[UMV_FIELD_LCR] == 1 && fields[UMV_FIELD_SLOTS] > UMV_SUBFRAME_SLOTS_MOST;
     if (one_in(60))
         fields[UMV_FIELD_VERSION] = (uint16_t)between(0, 15);
     if (one_in(60))
         fields[UMV_FIELD_SLOTS] = 0;
-    if (one_in(25))
+    if (one_in(many_slots ? 8 : 25))
         fields[UMV_FIELD_CAPACITIES + between(0, one_in(2) ? 1 : 15)] = 0;
-    if (one_in(40))
+    if (one_in(many_slots ? 8 : 40))
         memset(&fields[UMV_FIELD_E], 0, UMV_CHANNELS_MOST * sizeof *fields);
 }
 
@@ -141,7 +151,7 @@ static void damage_sheet(size_t bits)
     uint8_t *sheet = drawn.sheet;
     size_t length = drawn.packed_len;
     if (one_in(40))
-        sheet[1] |= (uint8_t)between(1, 7); /* spare bits, and the top bit of I - 1 */
+        sheet[1] |= (uint8_t)between(1, 7); /* the spare bit, the top bit of I - 1, the 1.28 Mcps bit */
     if (one_in(20) && bits % 8 != 0)
         sheet[length - 1] |= (uint8_t)(1u << between(0, 7 - (uint32_t)(bits % 8))); /* padding */
     if (one_in(40)) {
@@ -164,45 +174,57 @@ static uint64_t spacing_of(uint64_t n, uint64_t v)
     return r != 0 && 2 * r <= n ? (n + r - 1) / r : n / (n - r);
 }
 
-static uint32_t kinds_of_channel(uint32_t trch)
+/* The bit of a kind, where it holds. */
+static uint64_t bit_of(bool holds, enum kind kind)
+{
+    return (uint64_t)holds << kind;
+}
+
+static uint64_t kinds_of_channel(uint32_t trch)
 {
     uint64_t f, e, n, v;
     reference.channel(drawn.sheet, drawn.sheet_len, trch, &f, &e, &n, &v);
-    uint32_t kinds = (uint32_t)(trch > 8) << UPPER | (uint32_t)(e == 0) << EMPTY | (uint32_t)(v < n) << PUNCTURED |
-                     (uint32_t)(v == n && n != 0) << EXACT | (uint32_t)(v > n) << REPEATED |
-                     (uint32_t)(n != 0 && v >= 1000 * n) << MANY_TIMES;
+    uint64_t kinds = bit_of(trch > 8, UPPER) | bit_of(e == 0, EMPTY) | bit_of(v < n, PUNCTURED) |
+                     bit_of(v == n && n != 0, EXACT) | bit_of(v > n, REPEATED) |
+                     bit_of(n != 0 && v >= 1000 * n, MANY_TIMES);
     if (v == n || f == 1)
         return kinds;
     uint64_t q = spacing_of(n, v);
-    return kinds | 1u << (q % 2 == 1 ? ODD_STEP : q % f != 0 ? FEWER_ZEROS : ALL_ZEROS);
+    return kinds | bit_of(true, q % 2 == 1 ? ODD_STEP : q % f != 0 ? FEWER_ZEROS : ALL_ZEROS);
 }
 
 /* Of two codes. The one with the smaller spreading factor has runs; the other needs as many turns as it has places. Rounds of
    one turn each, code 1 first, go on until both are full. */
-static uint32_t kinds_of_codes(const uint16_t *capacities, const uint16_t *logs)
+static uint64_t kinds_of_codes(const uint16_t *capacities, const uint16_t *logs)
 {
     if (logs[0] == logs[1])
-        return 1u << EQUAL_CODES;
+        return bit_of(true, EQUAL_CODES);
     unsigned runner = logs[0] < logs[1] ? 0 : 1, doublings = (unsigned)abs(logs[0] - logs[1]);
     uint32_t run = 1u << doublings, turns = (capacities[runner] + run - 1) / run, others = capacities[1 - runner];
     uint32_t runs = (runner == 0 ? FIRST_RUNS : SECOND_RUNS) + doublings - 1;
     bool cut = capacities[runner] % run != 0 && others >= turns + runner; /* the other code has a place left then */
-    return (uint32_t)(capacities[runner] >= run) << runs | (uint32_t)cut << (runner == 0 ? FIRST_CUT : SECOND_CUT) |
-           (uint32_t)(others > turns + runner) << LONG_FULL | (uint32_t)(turns > others + 1 - runner) << SHORT_FULL;
+    return bit_of(capacities[runner] >= run, runs) | bit_of(cut, runner == 0 ? FIRST_CUT : SECOND_CUT) |
+           bit_of(others > turns + runner, LONG_FULL) | bit_of(turns > others + 1 - runner, SHORT_FULL);
 }
 
-static uint32_t kinds_of_uplink(void)
+static uint64_t kinds_of_uplink(const uint16_t *read)
 {
-    uint16_t read[UMV_FIELDS];
-    uint64_t at;
-    reference.sheet_read(drawn.sheet, drawn.sheet_len, read, UMV_FIELDS, &at);
-    uint32_t kinds = (uint32_t)(read[UMV_FIELD_UPLINK] == 1 && drawn.capacity == 60000) << FULL_UPLINK;
-    for (uint32_t t = 0; read[UMV_FIELD_UPLINK] == 1 && t < drawn.slots; t++)
+    uint64_t kinds = bit_of(drawn.capacity == 60000, FULL_UPLINK);
+    for (uint32_t t = 0; t < drawn.slots; t++)
         if (read[UMV_FIELD_PHCHS + t] == 1)
-            kinds |= 1u << ONE_CODE;
+            kinds |= bit_of(true, ONE_CODE);
         else
             kinds |= kinds_of_codes(&read[UMV_FIELD_CAPACITIES + 16 * t], &read[UMV_FIELD_LOGARITHMS + 16 * t]);
     return kinds;
+}
+
+/* Of 1.28 Mcps; `uplink` are the kinds that it has as an uplink sheet. */
+static uint64_t kinds_of_lcr(bool by_slot, uint64_t uplink)
+{
+    return bit_of(drawn.slots > 1, by_slot ? LCR_SLOT : LCR_FRAME) |
+           bit_of(drawn.slots == UMV_SUBFRAME_SLOTS_MOST, LCR_SEVEN) | bit_of(drawn.channels == 16, LCR_SIXTEEN) |
+           bit_of(drawn.capacity == 60000, LCR_FULL) | bit_of(uplink >> ONE_CODE & 1, LCR_SINGLE) |
+           bit_of((uplink >> FIRST_RUNS & 0xff) != 0, LCR_RUNS) | bit_of((uplink >> FIRST_CUT & 3) != 0, LCR_CUT);
 }
 
 /* What the reference says of the sheet. */
@@ -210,16 +232,21 @@ static void measure(void)
 {
     uint32_t number = reference.sizes(drawn.sheet, drawn.sheet_len, &drawn.channels, &drawn.slots, &drawn.contents,
                                       &drawn.capacity, &drawn.joined);
-    drawn.kinds = 0;
+    drawn.kinds = drawn.subframes = 0;
     memset(drawn.channel_kinds, 0, sizeof drawn.channel_kinds);
     if (number != UMV_OK)
         return;
-    bool by_slot = drawn.sheet[0] >> 3 & 1;
-    drawn.kinds = 1u << (by_slot ? BY_SLOT : OVER_FRAME) | (uint32_t)(drawn.sheet_len == UMV_SHEET_MOST) << LONGEST |
-                  (uint32_t)(drawn.channels == 8) << EIGHT | (uint32_t)(drawn.channels == 9) << NINE |
-                  (uint32_t)(drawn.channels == 16) << SIXTEEN |
-                  (uint32_t)(drawn.capacity == 60000) << FULL_FRAME | (uint32_t)(drawn.joined == 60000) << FULL_JOINED |
-                  kinds_of_uplink();
+    uint16_t read[UMV_FIELDS];
+    uint64_t at;
+    reference.sheet_read(drawn.sheet, drawn.sheet_len, read, UMV_FIELDS, &at);
+    drawn.subframes = read[UMV_FIELD_LCR] + 1u;
+    bool by_slot = read[UMV_FIELD_MODE] == 1;
+    uint64_t uplink = read[UMV_FIELD_UPLINK] == 1 ? kinds_of_uplink(read) : 0;
+    drawn.kinds = bit_of(true, by_slot ? BY_SLOT : OVER_FRAME) | bit_of(drawn.sheet_len == UMV_SHEET_MOST, LONGEST) |
+                  bit_of(drawn.channels == 8, EIGHT) | bit_of(drawn.channels == 9, NINE) |
+                  bit_of(drawn.channels == 16, SIXTEEN) | bit_of(drawn.capacity == 60000, FULL_FRAME) |
+                  bit_of(drawn.joined == 60000, FULL_JOINED) | uplink |
+                  (read[UMV_FIELD_LCR] == 1 ? kinds_of_lcr(by_slot, uplink) : 0);
     for (uint32_t i = 0; i < drawn.channels; i++)
         drawn.channel_kinds[i] = kinds_of_channel(i + 1);
 }

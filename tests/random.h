@@ -4,7 +4,8 @@
 
 #include "call.h"
 
-/* Kinds of sheet; from UPPER on, kinds of channel; from FULL_UPLINK on, kinds of uplink sheet, and of its slots. */
+/* Kinds of sheet; from UPPER on, kinds of channel; from FULL_UPLINK on, kinds of uplink sheet, and of its slots; from LCR_FRAME
+   on, kinds of 1.28 Mcps sheet. */
 enum kind {
     OVER_FRAME,  /* mode 0 */
     BY_SLOT,     /* mode 1 */
@@ -32,6 +33,14 @@ enum kind {
     SECOND_CUT,  /* the same of code 2 */
     LONG_FULL,   /* the code that has runs is full and passed over */
     SHORT_FULL,  /* the other code of such a slot is */
+    LCR_FRAME,   /* mode 0, several slots */
+    LCR_SLOT,    /* mode 1, several slots */
+    LCR_SEVEN,   /* 7 slots */
+    LCR_SIXTEEN, /* 16 channels */
+    LCR_FULL,    /* D is 60,000 */
+    LCR_SINGLE,  /* uplink, one code */
+    LCR_RUNS,    /* uplink, two codes, of which one has runs */
+    LCR_CUT,     /* a code that has runs fills up in mid-run */
     KINDS
 };
 
@@ -44,11 +53,12 @@ struct drawn {
     bool damaged;
     /* Of an accepted sheet, otherwise 0: */
     uint64_t channels, slots, contents, capacity, joined;
-    uint32_t kinds;            /* a bit each */
-    uint32_t channel_kinds[UMV_CHANNELS_MOST];
+    uint32_t subframes;
+    uint64_t kinds; /* a bit each */
+    uint64_t channel_kinds[UMV_CHANNELS_MOST];
 };
 
-_Static_assert(KINDS <= 32, "a kind is a bit of 32");
+_Static_assert(KINDS <= 64, "a kind is a bit of 64");
 
 extern struct drawn drawn;
 

@@ -30,6 +30,12 @@ static int32_t start_of(const struct channel *c, uint32_t n)
     return (int32_t)((2 * S[first_order[c->TTI][n]] * (uint64_t)abs(c->d) + 1) % (2 * c->N));
 }
 
+/* Where among the interleaved values of a frame sub-frame h has those of a slot, behind slots of `first` bits. */
+static size_t part_start(const struct form *form, const struct slot *slot, size_t first, uint32_t h)
+{
+    return form->mode == 0 ? h * form->W + first : form->K * first + h * slot->bits;
+}
+
 #define VALUE uint8_t
 #define STEP(name) name##_bytes
 #include "reference-steps.h"
@@ -148,10 +154,12 @@ static void multiplex_labels(const struct form *form, uint32_t frame_number, uin
         copies[k] = k > 0 && labels[k] == labels[k - 1] ? copies[k - 1] + 1 : 0;
 }
 
-/* The index in the frame of a place, which is counted from 1 as its slot and PhCH are; MOST if it does not exist. */
-static uint32_t index_of(const struct form *form, uint32_t slot, uint32_t phch, uint32_t place)
+/* The index in the frame of a place, which is counted from 1 as all before it are; MOST if it does not exist. */
+static uint32_t index_of(const struct form *form, uint32_t subframe, uint32_t slot, uint32_t phch, uint32_t place)
 {
-    uint32_t index = place - 1;
+    uint32_t index = (subframe - 1) * form->W + place - 1;
+    if (subframe < 1 || subframe > form->K)
+        return MOST;
     if (slot < 1 || slot > form->T || phch < 1 || phch > form->slots[slot - 1].P)
         return MOST;
     if (place < 1 || place > form->slots[slot - 1].U[phch - 1])
@@ -163,8 +171,8 @@ static uint32_t index_of(const struct form *form, uint32_t slot, uint32_t phch, 
     return index;
 }
 
-uint32_t ref_name(const uint8_t *sheet, size_t sheet_len, uint32_t frame_number, uint32_t slot, uint32_t phch,
-                  uint32_t place, uint64_t *trch, uint64_t *bit, uint64_t *copy)
+uint32_t ref_name(const uint8_t *sheet, size_t sheet_len, uint32_t frame_number, uint32_t subframe, uint32_t slot,
+                  uint32_t phch, uint32_t place, uint64_t *trch, uint64_t *bit, uint64_t *copy)
 {
     struct form form;
     uint32_t multiplexed[MOST], copies[MOST], frame[MOST];
@@ -172,7 +180,7 @@ uint32_t ref_name(const uint8_t *sheet, size_t sheet_len, uint32_t frame_number,
     uint32_t number = open_frame(sheet, sheet_len, frame_number, &form);
     if (number != 0)
         return number;
-    uint32_t index = index_of(&form, slot, phch, place);
+    uint32_t index = index_of(&form, subframe, slot, phch, place);
     if (index == MOST)
         return 10;
     multiplex_labels(&form, frame_number, multiplexed, copies);

@@ -60,12 +60,13 @@ static void deinterleave(const float *values, size_t count, float *out)
 static void gather(const struct form *form, const float *frame, float *multiplexed)
 {
     float interleaved[MOST];
-    size_t first = 0;
+    size_t first = 0; /* B_t: bits of the slots before, in one sub-frame */
     for (uint32_t t = 0; t < form->T; t++) {
         const struct slot *slot = &form->slots[t];
-        unmap(slot, frame + first, interleaved + first);
+        for (uint32_t h = 0; h < form->K; h++)
+            unmap(slot, frame + h * form->W + first, interleaved + part_start(form, slot, first, h));
         if (form->mode == 1)
-            deinterleave(interleaved + first, slot->bits, multiplexed + first);
+            deinterleave(interleaved + form->K * first, form->K * slot->bits, multiplexed + form->K * first);
         first += slot->bits;
     }
     if (form->mode == 0)

@@ -53,9 +53,9 @@ static uint32_t read_fields(const uint8_t *sheet, size_t sheet_len, struct form 
     if (form->T == 0)
         return 3;
     form->uplink = take(&reader, 1);
-    uint32_t spare = take(&reader, 1);
+    form->lcr = take(&reader, 1);
     form->I = (take(&reader, 1) << 3 | low) + 1;
-    spare |= take(&reader, 1);
+    uint32_t spare = take(&reader, 1);
     take_channels(&reader, form);
     take_slots(&reader, form);
     uint32_t padding = take(&reader, (8 - reader.bit % 8) % 8);
@@ -75,11 +75,11 @@ static void equalise(struct form *form)
     }
 }
 
-/* The sum of each slot and of all. Answers whether a capacity is 0. */
+/* The sum of each slot, of a sub-frame and of all. Answers whether a capacity is 0. */
 static int sum_capacities(struct form *form)
 {
     int empty = 0;
-    form->D = 0;
+    form->W = 0;
     for (uint32_t t = 0; t < form->T; t++) {
         struct slot *slot = &form->slots[t];
         slot->bits = 0;
@@ -87,8 +87,10 @@ static int sum_capacities(struct form *form)
             slot->bits += slot->U[p];
             empty |= slot->U[p] == 0;
         }
-        form->D += slot->bits;
+        form->W += slot->bits;
     }
+    form->K = form->lcr ? 2 : 1;
+    form->D = form->K * form->W;
     return empty;
 }
 
@@ -139,7 +141,7 @@ static void share(struct form *form)
     }
 }
 
-/* What follows from fields in their ranges, or 5, 13 and 6 to 8. */
+/* What follows from fields in their ranges, or 5, 13, 14 and 6 to 8. */
 static uint32_t measure(struct form *form)
 {
     equalise(form);
@@ -147,6 +149,8 @@ static uint32_t measure(struct form *form)
         return 5;
     if (codes_outside(form))
         return 13;
+    if (form->lcr && form->T > 7)
+        return 14;
     if (form->joined > MOST)
         return 6;
     if (form->D > MOST)
@@ -158,7 +162,7 @@ static uint32_t measure(struct form *form)
     return 0;
 }
 
-/* A sheet opened, or 1 to 5, 13 and 6 to 8. */
+/* A sheet opened, or 1 to 5, 13, 14 and 6 to 8. */
 static uint32_t open_sheet(const uint8_t *sheet, size_t sheet_len, struct form *form)
 {
     uint32_t number = read_fields(sheet, sheet_len, form);
@@ -193,6 +197,7 @@ uint32_t ref_sheet_read(const uint8_t *sheet, size_t sheet_len, uint16_t *fields
     fields[2] = (uint16_t)form.I;
     fields[3] = (uint16_t)form.T;
     fields[4] = (uint16_t)form.uplink;
+    fields[5] = (uint16_t)form.lcr;
     for (uint32_t i = 0; i < form.I; i++) {
         fields[FIELD_TTI + i] = (uint16_t)form.channels[i].TTI;
         fields[FIELD_E + i] = (uint16_t)form.channels[i].E;
@@ -233,11 +238,12 @@ static uint32_t check_fields(const uint16_t *fields, struct form *form)
     form->I = fields[2];
     form->T = fields[3];
     form->uplink = fields[4];
+    form->lcr = fields[5];
     if (form->version != 1)
         return 2;
     if (form->T == 0)
         return 3;
-    if (form->mode > 1 || form->uplink > 1 || form->I < 1 || form->I > 16 || form->T > 15)
+    if (form->mode > 1 || form->uplink > 1 || form->lcr > 1 || form->I < 1 || form->I > 16 || form->T > 15)
         return 4;
     for (uint32_t i = 0; i < form->I; i++) {
         struct channel *c = &form->channels[i];
@@ -260,7 +266,7 @@ static uint32_t check_fields(const uint16_t *fields, struct form *form)
     return 0;
 }
 
-/* The length of the sheet with these fields, or 11, 2 to 5, 13 and 6 to 8. */
+/* The length of the sheet with these fields, or 11, 2 to 5, 13, 14 and 6 to 8. */
 static uint32_t check_and_count(const uint16_t *fields, size_t fields_len, struct form *form, size_t *length)
 {
     if (fields_len != FIELDS)
@@ -309,7 +315,7 @@ uint32_t ref_sheet_write(const uint16_t *fields, size_t fields_len, uint8_t *she
     put(sheet, &bit, 3, form.I - 1); /* the low three bits */
     put(sheet, &bit, 4, form.T);
     put(sheet, &bit, 1, form.uplink);
-    put(sheet, &bit, 1, 0);
+    put(sheet, &bit, 1, form.lcr);
     put(sheet, &bit, 1, (form.I - 1) >> 3);
     put(sheet, &bit, 1, 0);
     for (uint32_t i = 0; i < form.I; i++) {

@@ -88,18 +88,19 @@ static void STEP(map)(const struct slot *slot, const VALUE *values, VALUE *frame
         STEP(map_runs)(slot, values, frame);
 }
 
-/* Steps 8 and 9: the multiplexed values of a frame to their places. */
+/* Steps 8 and 9: the multiplexed values of a frame to their places, each slot in each sub-frame by itself. */
 static void STEP(spread)(const struct form *form, const VALUE *multiplexed, VALUE *frame)
 {
     VALUE interleaved[MOST];
-    size_t first = 0;
+    size_t first = 0; /* B_t: bits of the slots before, in one sub-frame */
     if (form->mode == 0)
         STEP(interleave)(multiplexed, form->D, interleaved);
     for (uint32_t t = 0; t < form->T; t++) {
         const struct slot *slot = &form->slots[t];
         if (form->mode == 1)
-            STEP(interleave)(multiplexed + first, slot->bits, interleaved + first);
-        STEP(map)(slot, interleaved + first, frame + first);
+            STEP(interleave)(multiplexed + form->K * first, form->K * slot->bits, interleaved + form->K * first);
+        for (uint32_t h = 0; h < form->K; h++)
+            STEP(map)(slot, interleaved + part_start(form, slot, first, h), frame + h * form->W + first);
         first += slot->bits;
     }
 }

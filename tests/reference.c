@@ -1,7 +1,7 @@
 /*
  * The reference: document 01 in plain C. Steps are carried out one after the other, through arrays, as the document has
  * them. Single letters are the document's: I, T, E, F, N, P, U, D, Z, V, d, e, q, S, and bs is document 004's; channels,
- * slots, PhCHs and frames n are counted from 0 inside.
+ * sub-frames h, slots, PhCHs and frames n are counted from 0 inside.
  */
 #include "reference.h"
 
@@ -11,13 +11,13 @@
 
 enum {
     MOST = 60000, /* values of a frame, and of all equalised channels */
-    FIELDS = 548, /* version, mode, I, T, uplink; 16 TTI, 16 E, 16 RM; 15 P; 15 times 16 U, as many logarithms */
-    FIELD_TTI = 5,
-    FIELD_E = 21,
-    FIELD_RM = 37,
-    FIELD_P = 53,
-    FIELD_U = 68,
-    FIELD_LOG = 308
+    FIELDS = 549, /* version, mode, I, T, uplink, 1.28 Mcps; 16 TTI, 16 E, 16 RM; 15 P; 15 times 16 U, as many logarithms */
+    FIELD_TTI = 6,
+    FIELD_E = 22,
+    FIELD_RM = 38,
+    FIELD_P = 54,
+    FIELD_U = 69,
+    FIELD_LOG = 309
 };
 
 struct channel {
@@ -36,12 +36,12 @@ struct slot {
 
 /* A sheet's fields, and what follows from them. */
 struct form {
-    uint32_t version, mode, I, T, uplink;
+    uint32_t version, mode, I, T, uplink, lcr; /* lcr: the 1.28 Mcps option */
     struct channel channels[16];
-    struct slot slots[15];
-    uint32_t contents; /* sum of E */
-    uint32_t joined;   /* sum of T_i */
-    uint32_t D;
+    struct slot slots[15]; /* of each sub-frame */
+    uint32_t contents;     /* sum of E */
+    uint32_t joined;       /* sum of T_i */
+    uint32_t K, W, D;      /* sub-frames; bits of one, and of all */
 };
 
 /* Step 2: the order of columns for F = 1, 2, 4, 8. */

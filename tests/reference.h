@@ -24,8 +24,8 @@ uint32_t ref_multiplex(const uint8_t *sheet, size_t sheet_len, uint32_t frame_nu
                        size_t contents_len, uint8_t *multiplexed, size_t multiplexed_len, uint64_t *at);
 uint32_t ref_spread(const uint8_t *sheet, size_t sheet_len, const uint8_t *multiplexed, size_t multiplexed_len,
                     uint8_t *frame, size_t frame_len, uint64_t *at);
-uint32_t ref_name(const uint8_t *sheet, size_t sheet_len, uint32_t frame_number, uint32_t slot, uint32_t phch,
-                  uint32_t place, uint64_t *trch, uint64_t *bit, uint64_t *copy);
+uint32_t ref_name(const uint8_t *sheet, size_t sheet_len, uint32_t frame_number, uint32_t subframe, uint32_t slot,
+                  uint32_t phch, uint32_t place, uint64_t *trch, uint64_t *bit, uint64_t *copy);
 uint32_t ref_part(const uint8_t *sheet, size_t sheet_len, uint32_t trch, uint64_t multiplexed_len, uint64_t *start,
                   uint64_t *length);
 

@@ -19,19 +19,21 @@ static const struct {
     {2, "20 11 00 06 00 00 04", "version 2; spare bit"},
     {3, "10 00 00 06 00", "no slot"},
     {3, "10 00", "no slot; length"},
-    {3, "17 0f 00 06 00", "no slot; spare bits"},
+    {3, "17 0f 00 06 00", "no slot; spare bit"},
     {4, "10 10", "nothing behind the head"},
     {4, "10 10 00 06 00 00", "a byte less"},
     {4, "10 10 00 06 00 00 04 00", "a byte more"},
-    {4, "10 11 00 06 00 00 04", "last spare bit"},
-    {4, "10 14 00 06 00 00 04", "first spare bit"},
+    {4, "10 11 00 06 00 00 04", "spare bit"},
+    {4, "10 15 00 06 00 00 04", "spare bit of a 1.28 Mcps sheet"},
+    {4, "10 85 00 06 00 0004 0004 0004 0004 0004 0004 0004 0004", "spare bit; eight slots of 1.28 Mcps"},
+    {4, "10 84 00 06 00 0004 0004 0004 0004 0004 0004 0004", "two bytes less; eight slots of 1.28 Mcps"},
     {4, "10 18 00 06 00 00 04", "uplink bit, without a logarithm"},
     {4, "10 10 00 06 00 08 00 80", "logarithm, without the uplink bit"},
-    {4, "10 1c 00 06 00 08 00 80", "first spare bit of an uplink sheet"},
+    {4, "10 19 00 06 00 08 00 80", "spare bit of an uplink sheet"},
     {4, "10 12 00 06 00 00 04", "top bit of I - 1, with one channel"},
     {4, "10 10 000600 000600 000600 000600 000600 000600 000600 000600 000600 0004", "nine channels, without that bit"},
-    {4, "10 13 000600 000600 000600 000600 000600 000600 000600 000600 000600 0004", "nine channels; last spare bit"},
-    {4, "10 16 000600 000600 000600 000600 000600 000600 000600 000600 000600 0004", "nine channels; first spare bit"},
+    {4, "10 13 000600 000600 000600 000600 000600 000600 000600 000600 000600 0004", "nine channels; spare bit"},
+    {4, "10 17 000600 000600 000600 000600 000600 000600 000600 000600 000600 0004", "nine channels of 1.28 Mcps; spare bit"},
     {4, "10 18 00 06 00 0a 00 81", "padding bit; logarithm 5"},
     {4, "10 18 00 06 00 24 00 88 01 10 02 00 00", "a byte more; three codes"},
     {4, "10 18 00 06 00 24 00 88 01 10 02", "a byte less; three codes"},
@@ -49,6 +51,7 @@ static const struct {
     {5, "10f0 000600 0fff 0fff 0fff 0fff 0fff 0fff 0fff 0fff 0fff 0fff 0fff 0fff 0fff 0fff 1fff 0000",
      "last capacity 0; capacities"},
     {5, "10 10 00 00 00 00 00", "capacity 0; no content"},
+    {5, "10 84 00 06 00 0004 0004 0004 0004 0004 0004 0004 0000", "last capacity 0; eight slots of 1.28 Mcps"},
     {5, "10 18 00 06 00 0a 00 00", "capacity 0; logarithm 5"},
     {5, "10 18 00 06 00 24 00 88 00 10 02 00", "second capacity 0; three codes"},
     {13, "10 18 00 06 00 0a 00 80", "logarithm 5"},
@@ -57,6 +60,13 @@ static const struct {
     {13, "10 18 00 06 00 24 00 88 01 10 02 00", "three codes"},
     {13, "13 18 3fff00 3fff00 3fff00 3fff00 0a 00 80", "logarithm 5; contents"},
     {13, "10 18 00 00 00 0a 00 80", "logarithm 5; no content"},
+    {13, "10 8c 00 06 00 08008100102002040040800810010200205004", "last logarithm 5; eight slots of 1.28 Mcps"},
+    {14, "10 84 00 06 00 0004 0004 0004 0004 0004 0004 0004 0004", "eight slots of 1.28 Mcps"},
+    {14, "10 8c 00 06 00 08008100102002040040800810010200204004", "eight slots of 1.28 Mcps in uplink"},
+    {14, "13f4 3fff00 3fff00 3fff00 3fff00"
+         "0fff 0fff 0fff 0fff 0fff 0fff 0fff 0fff 0fff 0fff 0fff 0fff 0fff 0fff 0fff",
+     "fifteen slots of 1.28 Mcps; contents; capacities"},
+    {14, "10 84 00 00 00 0004 0004 0004 0004 0004 0004 0004 0004", "eight slots of 1.28 Mcps; no content"},
     {6, "13 10 3fff00 3fff00 3fff00 3fff00 0004", "contents"},
     {6, "13 18 3fff00 3fff00 3fff00 3fff00 08 00 80", "contents in uplink"},
     {6, "13f0 3fff00 3fff00 3fff00 3fff00"
@@ -65,7 +75,10 @@ static const struct {
     {7, "10f0 000600 0fff 0fff 0fff 0fff 0fff 0fff 0fff 0fff 0fff 0fff 0fff 0fff 0fff 0fff 0fff", "capacities"},
     {7, "10f0 000000 0fff 0fff 0fff 0fff 0fff 0fff 0fff 0fff 0fff 0fff 0fff 0fff 0fff 0fff 0fff",
      "capacities; no content"},
+    {7, "1074 000600 0fff 0fff 0fff 0fff 0fff 0fff 1fff 5380", "30,001 bits in each sub-frame of 1.28 Mcps"},
+    {7, "1074 000000 0fff 0fff 0fff 0fff 0fff 0fff 1fff fff0", "capacities of 1.28 Mcps; no content"},
     {8, "10 10 00 00 00 00 04", "no content"},
+    {8, "10 74 00 00 00 0004 0004 0004 0004 0004 0004 0004", "no content in seven slots of 1.28 Mcps"},
     {8, "10 18 00 00 00 08 00 80", "no content in uplink"},
     {8, "11 10 c000 ff 0000 00 0004", "no content in two channels"},
 };
@@ -101,9 +114,13 @@ static const struct field_fault field_faults[] = {
     {3, "no slot; mode 2", 2, {{UMV_FIELD_SLOTS, 0}, {UMV_FIELD_MODE, 2}}},
     {3, "no slot; no channel", 2, {{UMV_FIELD_SLOTS, 0}, {UMV_FIELD_CHANNELS, 0}}},
     {3, "no slot; uplink 2", 2, {{UMV_FIELD_SLOTS, 0}, {UMV_FIELD_UPLINK, 2}}},
+    {3, "no slot; 1.28 Mcps 2", 2, {{UMV_FIELD_SLOTS, 0}, {UMV_FIELD_LCR, 2}}},
     {4, "mode 2", 1, {{UMV_FIELD_MODE, 2}}},
     {4, "uplink 2", 1, {{UMV_FIELD_UPLINK, 2}}},
     {4, "uplink 2; capacity 0", 2, {{UMV_FIELD_UPLINK, 2}, {U, 0}}},
+    {4, "1.28 Mcps 2", 1, {{UMV_FIELD_LCR, 2}}},
+    {4, "1.28 Mcps 256, whose last byte is 0", 1, {{UMV_FIELD_LCR, 256}}},
+    {4, "1.28 Mcps 2; capacity 0", 2, {{UMV_FIELD_LCR, 2}, {U, 0}}},
     {4, "no channel", 1, {{UMV_FIELD_CHANNELS, 0}}},
     {4, "9 channels, the ninth of RM 0", 1, {{UMV_FIELD_CHANNELS, 9}}},
     {4, "17 channels", 1, {{UMV_FIELD_CHANNELS, 17}}},
@@ -139,6 +156,25 @@ static const struct field_fault uplink_faults[] = {
     {13, "logarithm 65,535", 1, {{L + 16 * 2 + 1, 65535}}},
     {13, "logarithm 5; no content", 3, {{L, 5}, {UMV_FIELD_CHANNELS, 1}, {E, 0}}},
 };
+
+/* Of make_longest with capacities of 1, at 1.28 Mcps: 15 slots. */
+static const struct field_fault slot_faults[] = {
+    {4, "1.28 Mcps 2; fifteen slots", 1, {{UMV_FIELD_LCR, 2}}},
+    {4, "sixteen slots of 1.28 Mcps", 1, {{UMV_FIELD_SLOTS, 16}}},
+    {4, "fifteen slots of 1.28 Mcps; U 4,096", 1, {{U + 239, 4096}}},
+    {5, "fifteen slots of 1.28 Mcps; capacity 0", 1, {{U + 239, 0}}},
+    {13, "fifteen slots of 1.28 Mcps; 16 codes in uplink", 1, {{UMV_FIELD_UPLINK, 1}}},
+    {14, "fifteen slots of 1.28 Mcps", 0, {{0, 0}}},
+    {14, "eight slots of 1.28 Mcps", 1, {{UMV_FIELD_SLOTS, 8}}},
+    {14, "eight slots of 1.28 Mcps; contents", 2, {{UMV_FIELD_SLOTS, 8}, {E, 16383}}},
+    {14, "eight slots of 1.28 Mcps; no content", 3, {{UMV_FIELD_SLOTS, 8}, {UMV_FIELD_CHANNELS, 1}, {E, 0}}},
+};
+
+static void make_many_slots(uint16_t *fields)
+{
+    make_longest(fields, 1);
+    fields[UMV_FIELD_LCR] = 1;
+}
 
 static void test_field_faults(const struct field_fault *faults, size_t count, void (*make)(uint16_t *))
 {
@@ -197,6 +233,25 @@ static void test_uplink_sums(void)
     expect_fields_refused(fields, UMV_NO_CONTENT);
 }
 
+/* At 1.28 Mcps 14 goes before the sums, and 7 is asked of both sub-frames. */
+static void test_lcr_sums(void)
+{
+    uint16_t fields[UMV_FIELDS];
+    make_longest(fields, 251);
+    fields[UMV_FIELD_LCR] = 1;
+    fields[UMV_FIELD_E] = 3751;
+    expect_fields_refused(fields, UMV_SUBFRAME_SLOTS); /* and contents and capacities over 60,000 */
+    make_longest_lcr(fields);
+    fields[UMV_FIELD_CAPACITIES]++;
+    expect_fields_refused(fields, UMV_MUCH_CAPACITY);
+    fields[UMV_FIELD_E] = 3751;
+    expect_fields_refused(fields, UMV_MUCH_CONTENT); /* and capacities over 60,000 */
+    memset(fields + UMV_FIELD_E, 0, UMV_CHANNELS_MOST * sizeof *fields);
+    expect_fields_refused(fields, UMV_MUCH_CAPACITY); /* and no content */
+    fields[UMV_FIELD_CAPACITIES]--;
+    expect_fields_refused(fields, UMV_NO_CONTENT);
+}
+
 /* The sums, 5 to 8, from fields; two at once, of which the first in the order of the table is given. */
 static void test_field_sums(void)
 {
@@ -233,7 +288,7 @@ static uint32_t number_at(const uint16_t *fields, unsigned place, uint16_t value
         return UMV_NO_SLOT;
     if (place >= UMV_FIELD_CAPACITIES)
         return of_logs ? UMV_OK : UMV_NO_CAPACITY;
-    bool may_be_zero = place == UMV_FIELD_MODE || place == UMV_FIELD_UPLINK || (place >= UMV_FIELD_TTI && place < UMV_FIELD_RM);
+    bool may_be_zero = place == UMV_FIELD_MODE || (place >= UMV_FIELD_UPLINK && place < UMV_FIELD_RM); /* 1.28 Mcps, TTI, E too */
     return may_be_zero ? UMV_OK : UMV_FORM;
 }
 
@@ -305,13 +360,17 @@ void test_refusals(void)
     test_sheet_faults();
     test_field_faults(field_faults, sizeof field_faults / sizeof *field_faults, make_fields);
     test_field_faults(uplink_faults, sizeof uplink_faults / sizeof *uplink_faults, make_uplink);
+    test_field_faults(slot_faults, sizeof slot_faults / sizeof *slot_faults, make_many_slots);
     test_counts();
     test_field_sums();
     test_uplink_sums();
+    test_lcr_sums();
     test_each_place(make_fields, 65535);
     test_each_place(make_fields, 0);
     test_each_place(make_uplink, 65535);
     test_each_place(make_uplink, 0);
+    test_each_place(make_lcr, 65535);
+    test_each_place(make_lcr, 0);
     test_field_count();
     test_absent_channel();
     test_null();

@@ -122,6 +122,12 @@ void make_uplink(uint16_t *fields)
         memcpy(&fields[UMV_FIELD_LOGARITHMS + 16 * t], logs[t], sizeof logs[t]);
 }
 
+void make_lcr(uint16_t *fields)
+{
+    make_fields(fields);
+    fields[UMV_FIELD_LCR] = 1;
+}
+
 void make_longest(uint16_t *fields, uint16_t capacity)
 {
     memset(fields, 0, UMV_FIELDS * sizeof *fields);
@@ -131,7 +137,17 @@ void make_longest(uint16_t *fields, uint16_t capacity)
         fields[UMV_FIELD_E + i] = 3750;
         fields[UMV_FIELD_RM + i] = 256;
     }
-    fill_slots(fields, capacity);
+    fill_slots(fields, 15, capacity);
+}
+
+void make_longest_lcr(uint16_t *fields)
+{
+    make_longest(fields, 0);
+    fields[UMV_FIELD_LCR] = 1;
+    memset(&fields[UMV_FIELD_PHCHS], 0, 15 * sizeof *fields);
+    fill_slots(fields, UMV_SUBFRAME_SLOTS_MOST, 267);
+    for (unsigned code = 0; code < 30000 - 7 * 16 * 267; code++)
+        fields[UMV_FIELD_CAPACITIES + code]++;
 }
 
 /* ---- What is expected of fields and of sheets ---- */

@@ -52,8 +52,14 @@ void make_fields(uint16_t *fields);
 /* The same channels in uplink: 4 slots of 1, 2, 2 and 1 codes, with each logarithm once at least. */
 void make_uplink(uint16_t *fields);
 
-/* The longest that is accepted: 8 channels, 15 slots, 16 PhCHs each, and with `capacity` 250 just 60,000 bits. */
+/* make_fields at 1.28 Mcps. */
+void make_lcr(uint16_t *fields);
+
+/* The longest that is accepted: 16 channels, 15 slots, 16 PhCHs each, and with `capacity` 250 just 60,000 bits. */
 void make_longest(uint16_t *fields, uint16_t capacity);
+
+/* The longest of 1.28 Mcps: the same channels, 7 slots, 16 PhCHs each, and just 30,000 bits in each sub-frame. */
+void make_longest_lcr(uint16_t *fields);
 
 /* These fields draw `number` from both calls that take fields, whatever room is lent, and nothing is written. */
 void expect_fields_refused(const uint16_t *fields, uint32_t number);

@@ -26,7 +26,7 @@ enum {
 /* What must be met; a rounding counts where down and up differ. FRAMES_1 and so on stand in the order of the TTIs. */
 enum met {
     EMPTY, PUNCTURED, UNALTERED, REPEATED, ALL_PUNCTURED, FEW_PUNCTURED, MANY_PUNCTURED, SEVERAL_TIMES, ONE_BIT, LONG,
-    LONGEST_REPEATED, LONGEST_PUNCTURED, FRAMES_1, FRAMES_2, FRAMES_4, FRAMES_8, LATER_FRAME, RUNS, NO_BIT, ALL_BITS,
+    LONGEST_REPEATED, LONGEST_PUNCTURED, FRAMES_1, FRAMES_2, FRAMES_4, FRAMES_8, LATER_FRAME, RUNS, HALVES, NO_BIT, ALL_BITS,
     DROPPED_DOWN, DROPPED_UP, EXTRA_DOWN, EXTRA_UP, GAP_DOWN, GAP_UP, COPIES_APART, KINDS
 };
 
@@ -49,6 +49,7 @@ static const char *const kinds[KINDS] = {
     [FRAMES_8] = "F = 8",
     [LATER_FRAME] = "a later frame of a TTI",
     [RUNS] = "an uplink slot of two codes with unequal factors",
+    [HALVES] = "two sub-frames",
     [NO_BIT] = "L = 0",
     [ALL_BITS] = "L = N",
     [DROPPED_DOWN] = "punctured bits rounded down",
@@ -91,9 +92,9 @@ static void draw(unsigned long which)
     draw_small(fields);
     if (which <= 2) {
         make_single(0, MOST_N, between(1, 4095));
-        fields[UMV_FIELD_UPLINK] = 0;
+        fields[UMV_FIELD_UPLINK] = fields[UMV_FIELD_LCR] = 0;
         if (which == 1)
-            fill_slots(fields, 250);
+            fill_slots(fields, 15, 250);
     } else if (one_in(20)) {
         uint32_t tti = between(0, 2);
         make_single(tti, between(SMALL_E, LONG_N) << tti, between(1, LONG_PLACES));
@@ -103,10 +104,10 @@ static void draw(unsigned long which)
 }
 
 /* Whether there is such a place; if so, it is counted for the bit that it names. */
-static bool count_place(uint32_t slot, uint32_t phch, uint32_t place)
+static bool count_place(uint32_t subframe, uint32_t slot, uint32_t phch, uint32_t place)
 {
     uint64_t trch, bit, copy;
-    uint32_t number = umv_name(sheet, sheet_len, frame_number, slot, phch, place, &trch, &bit, &copy);
+    uint32_t number = umv_name(sheet, sheet_len, frame_number, subframe, slot, phch, place, &trch, &bit, &copy);
     if (number == UMV_ABSENT)
         return false;
     if (!CHECK(number == UMV_OK && trch >= 1 && trch <= CHANNELS && bit >= 1) || !CHECK(places < MOST_PLACES))
@@ -124,10 +125,11 @@ static void count_names(void)
 {
     memset(named, 0, sizeof named);
     places = 0;
-    for (uint32_t slot = 1; count_place(slot, 1, 1); slot++)
-        for (uint32_t phch = 1; phch == 1 || count_place(slot, phch, 1); phch++)
-            for (uint32_t place = 2; count_place(slot, phch, place);)
-                place++;
+    for (uint32_t subframe = 1; count_place(subframe, 1, 1, 1); subframe++)
+        for (uint32_t slot = 1; slot == 1 || count_place(subframe, slot, 1, 1); slot++)
+            for (uint32_t phch = 1; phch == 1 || count_place(subframe, slot, phch, 1); phch++)
+                for (uint32_t place = 2; count_place(subframe, slot, phch, place);)
+                    place++;
 }
 
 /* ---- One channel's segment of it ---- */
@@ -222,6 +224,7 @@ static void count_segment(uint32_t i)
     met[LATER_FRAME] += frame_number % (1u << fields[UMV_FIELD_TTI + i]) != 0;
     met[RUNS] += fields[UMV_FIELD_UPLINK] == 1 && fields[UMV_FIELD_PHCHS] == 2 &&
                  fields[UMV_FIELD_LOGARITHMS] != fields[UMV_FIELD_LOGARITHMS + 1];
+    met[HALVES] += fields[UMV_FIELD_LCR];
     check_stretches();
     check_relied();
 }

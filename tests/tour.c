@@ -10,7 +10,7 @@
 
 #include "reference.h"
 
-enum { SLOTS = 15, CODES = 16, MOST = 100 }; /* MOST: values of a frame here, and of the channels made even */
+enum { SUBFRAMES = 2, SLOTS = 15, CODES = 16, MOST = 100 }; /* MOST: values of a frame here, and of the channels made even */
 
 struct stop {
     const char *title, *sent, *contents;
@@ -18,7 +18,7 @@ struct stop {
     size_t sheet_len;
     uint32_t first, number; /* the frames that are sent; `number` is the one shown */
     struct {
-        uint32_t slot, phch, from, to;
+        uint32_t subframe, slot, phch, from, to;
     } silent; /* the places of that one, from 1, at which nothing is heard */
 };
 
@@ -31,7 +31,7 @@ static const struct stop stops[] = {
         .first = 0,
         .number = 0,
         .sent = "sent; place 2 is silent; what came home:",
-        .silent = {1, 1, 2, 2},
+        .silent = {1, 1, 1, 2, 2},
     },
     {
         .title = "three channels over two slots:",
@@ -44,7 +44,7 @@ static const struct stop stops[] = {
         .first = 4,
         .number = 7,
         .sent = "frames 4 to 7 sent; in frame 7 slot 1 PhCH 2 is silent; what came home:",
-        .silent = {1, 2, 1, 5},
+        .silent = {1, 1, 2, 1, 5},
     },
     {
         .title = "two uplink codes, of spreading factors 8 and 2, which take 1 and 4 bits at their turns:",
@@ -54,7 +54,18 @@ static const struct stop stops[] = {
         .first = 0,
         .number = 0,
         .sent = "sent; the first four bits of PhCH 2, places 5 to 2, are silent; what came home:",
-        .silent = {1, 2, 2, 5},
+        .silent = {1, 1, 2, 2, 5},
+    },
+    {
+        .title = "two sub-frames of 1.28 Mcps, each slot interleaved over both:",
+        .sheet = {0x19, 0x24, 0x00, 0x0a, 0x00, 0x40, 0x0c, 0x00, 0x10, 0x03, 0x00, 0x20, 0x00, 0x40},
+        .sheet_len = 14,
+        .contents = "1011001110"
+                    "011010011001",
+        .first = 0,
+        .number = 1,
+        .sent = "frames 0 and 1 sent; in frame 1 sub-frame 2 slot 1 PhCH 2 is silent; what came home:",
+        .silent = {2, 1, 2, 1, 2},
     },
 };
 
@@ -116,11 +127,11 @@ static void print_contents(const struct stop *s)
 }
 
 /* The places that a PhCH has, by whether they have names; none where the sheet has no such PhCH. */
-static uint32_t places_of(const struct stop *s, uint32_t slot, uint32_t phch)
+static uint32_t places_of(const struct stop *s, uint32_t subframe, uint32_t slot, uint32_t phch)
 {
     uint64_t trch, bit, copy;
     uint32_t place = 1;
-    while (ref_name(s->sheet, s->sheet_len, s->number, slot, phch, place, &trch, &bit, &copy) == 0)
+    while (ref_name(s->sheet, s->sheet_len, s->number, subframe, slot, phch, place, &trch, &bit, &copy) == 0)
         place++;
     return place - 1;
 }
@@ -141,11 +152,11 @@ static void print_bits(const uint8_t *frame, uint32_t places)
         putchar('0' + frame[k]);
 }
 
-static void print_names(const struct stop *s, uint32_t slot, uint32_t phch, uint32_t places)
+static void print_names(const struct stop *s, uint32_t subframe, uint32_t slot, uint32_t phch, uint32_t places)
 {
     uint64_t trch, bit, copy;
     for (uint32_t place = 1; place <= places; place++) {
-        must(ref_name(s->sheet, s->sheet_len, s->number, slot, phch, place, &trch, &bit, &copy), "name");
+        must(ref_name(s->sheet, s->sheet_len, s->number, subframe, slot, phch, place, &trch, &bit, &copy), "name");
         printf(" %" PRIu64 ".%" PRIu64, trch, bit);
         if (copy > 0)
             printf("'%" PRIu64, copy);
@@ -154,32 +165,33 @@ static void print_names(const struct stop *s, uint32_t slot, uint32_t phch, uint
     }
 }
 
-/* A line for each PhCH: the bits of a frame, or without one the names. */
+/* A line for each PhCH, with its sub-frame where there are two: the bits of a frame, or without one the names. */
 static void print_places(const struct stop *s, const uint8_t *frame)
 {
-    for (uint32_t slot = 1; slot <= SLOTS; slot++)
-        for (uint32_t phch = 1; phch <= CODES; phch++) {
-            uint32_t places = places_of(s, slot, phch);
-            if (places == 0)
-                continue;
-            printf("slot %" PRIu32 " PhCH %" PRIu32 ":", slot, phch);
-            if (frame == NULL) {
-                print_names(s, slot, phch, places);
-            } else {
-                print_bits(frame, places);
-                frame += places;
-            }
-            puts("");
+    for (uint32_t k = 0; k < SUBFRAMES * SLOTS * CODES; k++) {
+        uint32_t subframe = k / CODES / SLOTS + 1, slot = k / CODES % SLOTS + 1, phch = k % CODES + 1;
+        uint32_t places = places_of(s, subframe, slot, phch);
+        if (places == 0)
+            continue;
+        if (places_of(s, 2, 1, 1) != 0)
+            printf("sub-frame %" PRIu32 " ", subframe);
+        printf("slot %" PRIu32 " PhCH %" PRIu32 ":", slot, phch);
+        if (frame == NULL) {
+            print_names(s, subframe, slot, phch, places);
+        } else {
+            print_bits(frame, places);
+            frame += places;
         }
+        puts("");
+    }
 }
 
 /* Where the silent PhCH begins in the frame. */
 static uint32_t silent_start(const struct stop *s)
 {
-    uint32_t start = 0;
-    for (uint32_t slot = 1; slot <= s->silent.slot; slot++)
-        for (uint32_t phch = 1; phch <= CODES && (slot < s->silent.slot || phch < s->silent.phch); phch++)
-            start += places_of(s, slot, phch);
+    uint32_t start = 0, before = ((s->silent.subframe - 1) * SLOTS + s->silent.slot - 1) * CODES + s->silent.phch - 1;
+    for (uint32_t k = 0; k < before; k++)
+        start += places_of(s, k / CODES / SLOTS + 1, k / CODES % SLOTS + 1, k % CODES + 1);
     return start;
 }
 

@@ -30,8 +30,15 @@ fn no_name(number: u32) -> NameAnswer
 }
 
 // Which copy of which bit of which channel stands at a place.
-pub fn name(bytes: &[u8], frame: FrameNumber, slot: u32, phch: PhchNumber, place: u32) -> NameAnswer
-    ensures { λ r. ⌜ naming (r .number) (nameIn (r .name)) ≡ nameAnswer (now (bytes .entry)) (frame .0) slot (phch .0) place ⌝ }
+pub fn name(
+    bytes: &[u8],
+    frame: FrameNumber,
+    subframe: u32,
+    slot: u32,
+    phch: PhchNumber,
+    place: u32,
+) -> NameAnswer
+    ensures { λ r. ⌜ naming (r .number) (nameIn (r .name)) ≡ nameAnswer (now (bytes .entry)) (frame .0) subframe slot (phch .0) place ⌝ }
 {
     let answer = open_sheet(bytes);
     let number = answer.number;
@@ -45,6 +52,7 @@ pub fn name(bytes: &[u8], frame: FrameNumber, slot: u32, phch: PhchNumber, place
         answer.opened.fields,
         &answer.opened.fields.phchs,
         &answer.opened.fields.caps,
+        subframe,
         slot,
         phch,
         place,
@@ -53,7 +61,11 @@ pub fn name(bytes: &[u8], frame: FrameNumber, slot: u32, phch: PhchNumber, place
             answer.opened,
             &answer.opened.fields.phchs,
             &answer.opened.fields.caps,
+            &answer.opened.fields.tti,
+            &answer.opened.sizes,
+            &answer.opened.cuts,
             frame,
+            subframe,
             slot,
             phch,
             place,

@@ -33,11 +33,13 @@ pub umv-channel : Always Rattle.ummervia.proofs.exports.umv_channel.ended Rattl
 umv-channel κs i r v met = met
 
 pub name : Always Rattle.asking.proofs.name.name.ended Rattle.asking.proofs.name.name.Reads.Learnt
-    (λ κs (bytes, (frame, (slot, (phch, (place, _))))) r _. naming (r .number) (nameIn (r .name)) ≡ nameAnswer (now bytes) (frame .0) slot (phch .0) place)
+    (λ κs (bytes, (frame, (subframe, (slot, (phch, (place, _)))))) r _.
+    naming (r .number) (nameIn (r .name)) ≡ nameAnswer (now bytes) (frame .0) subframe slot (phch .0) place)
 name κs i r v met = met
 
 pub umv-name : Always Rattle.ummervia.proofs.exports.umv_name.ended Rattle.ummervia.proofs.exports.umv_name.Reads.Learnt
-    (λ κs (bytes, (frame, (slot, (phch, (place, _))))) r (_, (_, (_, (_, (_, (channel, (bit, (copy, _)))))))). nameLeft r channel bit copy ≡ nameAnswer (now bytes) frame slot phch place)
+    (λ κs (bytes, (frame, (subframe, (slot, (phch, (place, _)))))) r (_, (_, (_, (_, (_, (_, (channel, (bit, (copy, _))))))))).
+    nameLeft r channel bit copy ≡ nameAnswer (now bytes) frame subframe slot phch place)
 umv-name κs i r v met = met
 
 pub build : Always Rattle.sending.proofs.build.ended Rattle.sending.proofs.build.Reads.Learnt

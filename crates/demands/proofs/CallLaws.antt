@@ -22,7 +22,7 @@ use Rattle.writing.specs.Numbers.{fieldLines, writeLines}
 use Rattle.writing.specs.Written.{bytesOf, lengthAnswer}
 use Rattle.frame.specs.Frame.{spread, multiplexedBits, bitFrame}
 use Rattle.frame.specs.Bit.{isBit}
-use Rattle.naming.specs.Name.{nameOf, onlySubframe}
+use Rattle.naming.specs.Name.{nameOf}
 use Rattle.joining.specs.Joining.{valueOf, countOf, plusZero}
 use Rattle.joining.specs.Range.{inRange}
 use Rattle.joining.specs.declared.Heard.{Heard}
@@ -142,10 +142,10 @@ channel-law s k a e =
     answers-in (channel-lines s k) refl (λ (x : ChannelAnswer). x .number) (λ (x : ChannelAnswer). (x .f, x .e, x .n, x .v))
     (channelIn (sheetOf s) (k - 1)) (noChannel (channelNumber s k)) refl refl e
 
-pub name-law : (s : List ℕ) (frame slot phch place : ℕ) (a : Naming) → a ≡ nameAnswer s frame slot phch place
-    → NameCall s frame slot phch place (a .number) (a .name)
-name-law s frame slot phch place a e =
-    answers (name-means s frame slot phch place) refl (nameOf (sheetOf s) frame onlySubframe slot phch place) noName
+pub name-law : (s : List ℕ) (frame subframe slot phch place : ℕ) (a : Naming) → a ≡ nameAnswer s frame subframe slot phch place
+    → NameCall s frame subframe slot phch place (a .number) (a .name)
+name-law s frame subframe slot phch place a e =
+    answers (name-means s frame subframe slot phch place) refl (nameOf (sheetOf s) frame subframe slot phch place) noName
     (ap (λ (x : Naming). x .number) e) (ap (λ (x : Naming). x .name) e)
 
 pub part-law : (s : List ℕ) (k n : ℕ) (a : PartAnswer) → a ≡ partAnswer s k n → PartCall s k n (a .number) (a .start, a .length)

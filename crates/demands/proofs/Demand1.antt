@@ -79,14 +79,14 @@ pub umv-channel : Demanded Rattle.ummervia.proofs.exports.umv_channel.ended Rat
 umv-channel = demanded Ummervia.umv-channel (λ κs i r (_, (_, (f, (e, (n, (v, _)))))) met. channel-law _ _ (channelMade r f e n v) met)
 
 pub name : Demanded Rattle.asking.proofs.name.name.ended Rattle.asking.proofs.name.name.Reads.Asked Rattle.asking.proofs.name.name.Reads.Learnt
-    (λ κs (bytes, (frame, (slot, (phch, (place, _))))) r _.
-    NameCall (now bytes) (frame .0) slot (phch .0) place (r .number) (nameIn (r .name)))
-name = demanded Asking.name (λ κs i r v met. name-law _ _ _ _ _ (naming (r .number) (nameIn (r .name))) met)
+    (λ κs (bytes, (frame, (subframe, (slot, (phch, (place, _)))))) r _.
+    NameCall (now bytes) (frame .0) subframe slot (phch .0) place (r .number) (nameIn (r .name)))
+name = demanded Asking.name (λ κs i r v met. name-law _ _ _ _ _ _ (naming (r .number) (nameIn (r .name))) met)
 
 pub umv-name : Demanded Rattle.ummervia.proofs.exports.umv_name.ended Rattle.ummervia.proofs.exports.umv_name.Reads.Asked Rattle.ummervia.proofs.exports.umv_name.Reads.Learnt
-    (λ κs (bytes, (frame, (slot, (phch, (place, _))))) r (_, (_, (_, (_, (_, (channel, (bit, (copy, _)))))))).
-    NameCall (now bytes) frame slot phch place r (record { channel = channel; bit = bit; copy = copy }))
-umv-name = demanded Ummervia.umv-name (λ κs i r (_, (_, (_, (_, (_, (channel, (bit, (copy, _)))))))) met. name-law _ _ _ _ _ (nameLeft r channel bit copy) met)
+    (λ κs (bytes, (frame, (subframe, (slot, (phch, (place, _)))))) r (_, (_, (_, (_, (_, (_, (channel, (bit, (copy, _))))))))).
+    NameCall (now bytes) frame subframe slot phch place r (record { channel = channel; bit = bit; copy = copy }))
+umv-name = demanded Ummervia.umv-name (λ κs i r (_, (_, (_, (_, (_, (_, (channel, (bit, (copy, _))))))))) met. name-law _ _ _ _ _ _ (nameLeft r channel bit copy) met)
 
 pub part : Demanded Rattle.asking.proofs.part.part.ended Rattle.asking.proofs.part.part.Reads.Asked Rattle.asking.proofs.part.part.Reads.Learnt
     (λ κs (bytes, (trch, (n, _))) r _. PartCall (now bytes) (trch .0) n (r .number) (r .start, r .length))

@@ -16,16 +16,16 @@ use Rattle.laws.proofs.TestLaws.{or-sides, of-sides, and-left, and-right, is-fa
 use Rattle.laws.proofs.FirstFailLaws.{fail-fails, fail-passes}
 use Rattle.sheet.specs.Fields.{encodedOf, phchsOf, capacityOf, logOf}
 use Rattle.sheet.specs.Sizes.{sizeOf}
-use Rattle.sheet.specs.Numbers.{emptyPlace, slotBeyond, beyondUplink, silent}
+use Rattle.sheet.specs.Numbers.{emptyPlace, slotBeyond, beyondUplink, beyondSubframe, silent}
 use Rattle.sheet.specs.declared.Sheet.{Sheet}
 use Rattle.writing.specs.Numbers.{outside, channelOutside, slotOutside, fieldOutside}
 use Rattle.frame.specs.Bit.{isBit}
-use Rattle.naming.specs.Name.{hasPlace, onlySubframe}
+use Rattle.naming.specs.Name.{hasPlace}
 use Rattle.naming.proofs.ExistLaws.{exists}
 use Rattle.joining.specs.Range.{inRange}
 use Rattle.looking.specs.Looking.{noTrch}
 use Rattle.receiving.specs.Listening.{noBit}
-use Rattle.demands.specs.Table.{NotFrom, BadChannel, BadSlot, BadField, NoCapacity, BadUplink, NoBits, MissingTrch, MissingPlace, MissingBit, BadByte, BadSoft, SomeOf}
+use Rattle.demands.specs.Table.{NotFrom, BadChannel, BadSlot, BadField, NoCapacity, BadUplink, BadSubframe, NoBits, MissingTrch, MissingPlace, MissingBit, BadByte, BadSoft, SomeOf}
 
 pub below : (a b : ℕ) → (ltb a b ≡ true) ↔ (a < b)
 below a b = (ltb-true a b, lt-ltb a b)
@@ -67,10 +67,9 @@ slot-means sh t = either (not-from _ _ _) (some _ (phchsOf sh t) (λ p. below _ 
 
 pub field-means : (sh : Sheet) → (fieldOutside sh ≡ true) ↔ BadField sh
 field-means sh =
-    either (below _ _)
-    (either (below _ _)
+    either (either (below _ _) (either (below _ _) (below _ _)))
     (either (not-from _ _ _)
-    (either (below _ _) (either (some _ (sh .channels) (channel-means sh)) (some _ (sh .slots) (slot-means sh))))))
+    (either (below _ _) (either (some _ (sh .channels) (channel-means sh)) (some _ (sh .slots) (slot-means sh)))))
 
 -- 5
 pub empty-means : (sh : Sheet) → (emptyPlace sh ≡ true) ↔ NoCapacity sh
@@ -81,6 +80,10 @@ pub uplink-means : (sh : Sheet) → (beyondUplink sh ≡ true) ↔ BadUplink sh
 uplink-means sh =
     both (other (sh .uplink) 0)
     (some (λ t. slotBeyond (sh .logs) t (phchsOf sh t)) (sh .slots) (λ t. either (below 2 (phchsOf sh t)) (some _ (phchsOf sh t) (λ p. below 4 (logOf sh t p)))))
+
+-- 14
+pub subframe-means : (sh : Sheet) → (beyondSubframe sh ≡ true) ↔ BadSubframe sh
+subframe-means sh = both (other (sh .lcr) 0) (below 7 (sh .slots))
 
 -- 8
 pub silent-means : (sh : Sheet) → (silent sh ≡ true) ↔ NoBits sh
@@ -97,8 +100,9 @@ trch-means sh k = either (same k 0) (below (sh .channels) k)
 pub bit-means : (sh : Sheet) (k b : ℕ) → (noBit sh k b ≡ true) ↔ MissingBit sh k b
 bit-means sh k b = either (trch-means sh k) (either (same b 0) (below (sizeOf sh (k - 1)) b))
 
-pub place-means : (sh : Sheet) (slot phch place : ℕ) → (not (hasPlace sh onlySubframe slot phch place) ≡ true) ↔ MissingPlace sh slot phch place
-place-means sh slot phch place = opposite (exists sh onlySubframe slot phch place)
+pub place-means : (sh : Sheet) (subframe slot phch place : ℕ)
+    → (not (hasPlace sh subframe slot phch place) ≡ true) ↔ MissingPlace sh subframe slot phch place
+place-means sh subframe slot phch place = opposite (exists sh subframe slot phch place)
 
 -- 12
 pub bad-byte : (x : ℕ) → (isBit x ≡ false) ↔ BadByte x

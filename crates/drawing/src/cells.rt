@@ -67,6 +67,7 @@ pub fn look_at(
     sheet: &[u8],
     frame: FrameNumber,
     e: [u16; CHANNELS],
+    subframe: u32,
     slot: u32,
     phch: PhchNumber,
     looks: &mut [u8; MOST_PLACES],
@@ -76,7 +77,7 @@ pub fn look_at(
 {
     let mut i: usize = 0;
     while i < n {
-        let answer = name(sheet, frame, slot, phch, (i + 1) as u32);
+        let answer = name(sheet, frame, subframe, slot, phch, (i + 1) as u32);
         looks[i] = look(e, answer.name);
         i += 1;
     }

@@ -12,6 +12,9 @@ pub enum Scale {
 // The room above the cells of a slot, for its label and the numbers of columns.
 const HEAD: u64 = 26;
 
+// The room above the first slot of a sub-frame, for its label.
+const OVER: u64 = 24;
+
 pub fn scale_of(d: u64) -> Scale {
     if d <= 600 {
         return Scale::Large;
@@ -109,6 +112,13 @@ pub fn height(scale: Scale, rows: u64) -> u64
         Scale::Middle => rows * 12,
         Scale::Small => rows * 8,
     }
+}
+
+// The height of the label of a sub-frame: there is none where there is only one.
+pub fn over(lcr: u16) -> u64
+    ensures { λ r. ⌜ r ≤ 24 ⌝ }
+{
+    if lcr == 0 { 0 } else { OVER }
 }
 
 // The height of the head above the capacity at index m of the sheet's capacities: the first of each slot has one.

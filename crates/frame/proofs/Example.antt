@@ -1,4 +1,4 @@
--- Frames of document 01's sheet, and of one whose offset is not that of frame 0, computed.
+-- Frames of document 01's sheet, of one whose offset is not that of frame 0, and of two of 1.28 Mcps, computed.
 use mathlib.Core.Path.{_≡_, refl}
 use mathlib.Core.List.{[], _∷_}
 use Prim.Native.Nat.{_+_}
@@ -17,7 +17,7 @@ use Rattle.interleaving.specs.Columns.{column, columns}
 use Rattle.interleaving.specs.First.{equalised, firstInterleaved, segmentOf}
 use Rattle.interleaving.specs.Second.{secondInterleaved}
 use Rattle.mapping.specs.Mapping.{passed, oneMore, onward, taker, afterBit, posOf, place, run, mapped}
-use Rattle.frame.specs.Frame.{startAt, sentOf, multiplexed, capsOf, runsOf, slotPart, slotBits, spread, frameOf, contentsOf, bitsOf, bitFrame}
+use Rattle.frame.specs.Frame.{startAt, sentOf, multiplexed, capsOf, runsOf, slotPart, slotShare, sharePart, slotBits, spread, frameOf, contentsOf, bitsOf, bitFrame}
 
 -- 10 10 00 06 00 00 04: E = 6, F = 1, D = 4. Contents 1,0,1,1,0,0 give the frame 0,0,1,0
 pub sheet-bits : bitFrame (sheetOf (16 ∷ 16 ∷ 0 ∷ 6 ∷ 0 ∷ 0 ∷ 4 ∷ [])) 0 (1 ∷ 0 ∷ 1 ∷ 1 ∷ 0 ∷ 0 ∷ []) ≡ 0 ∷ 0 ∷ 1 ∷ 0 ∷ []
@@ -28,3 +28,12 @@ sheet-bits = refl
 pub second-frame : frameOf asIs (sheetOf (16 ∷ 16 ∷ 128 ∷ 40 ∷ 0 ∷ 0 ∷ 7 ∷ [])) 1 (λ i. table (λ k. k + 1) 0 40) ≡ 3 ∷ 35 ∷ 23 ∷ 11 ∷ 39 ∷ 27 ∷ 15 ∷ []
 unfolding sheetOf slotFrom subframesOf table Bits.val Bits.bitAt sumTo joined inRows orders columnAt rowOf order floorDiv floorOver ceilOver modOver remainderOf qOf euclid gcd addedOf qF yOf filled S startOf puncturedText whileLow repeatedText matchedText column columns firstInterleaved segmentOf secondInterleaved passed oneMore onward taker afterBit posOf place run mapped startAt sentOf multiplexed capsOf runsOf slotPart slotBits spread frameOf
 second-frame = refl
+
+-- C-14: two slots of two places in each of two sub-frames, so that D = 8, and one channel of bits 1 to 8, none dropped and none repeated. Mode 0: 8 bits are
+-- interleaved to 1, 6, 4, 2, 7, 5, 3, 8, and sub-frame 1 has the first half. Mode 1: slot 1's bits 1 to 4 to 1, 4, 2, 3 and slot 2's bits 5 to 8 to 5, 8, 6, 7, of
+-- each of which sub-frame 1 has the first half
+pub halves :
+    (frameOf asIs (sheetOf (16 ∷ 36 ∷ 0 ∷ 8 ∷ 0 ∷ 0 ∷ 2 ∷ 0 ∷ 2 ∷ [])) 0 (λ i. table (λ k. k + 1) 0 8) ≡ 1 ∷ 6 ∷ 4 ∷ 2 ∷ 7 ∷ 5 ∷ 3 ∷ 8 ∷ [])
+    × (frameOf asIs (sheetOf (24 ∷ 36 ∷ 0 ∷ 8 ∷ 0 ∷ 0 ∷ 2 ∷ 0 ∷ 2 ∷ [])) 0 (λ i. table (λ k. k + 1) 0 8) ≡ 1 ∷ 4 ∷ 5 ∷ 8 ∷ 2 ∷ 3 ∷ 6 ∷ 7 ∷ [])
+unfolding sheetOf slotFrom subframesOf table Bits.val Bits.bitAt sumTo joined inRows orders columnAt rowOf order floorDiv floorOver ceilOver modOver remainderOf qOf euclid gcd addedOf qF yOf filled S startOf puncturedText whileLow repeatedText matchedText column columns firstInterleaved segmentOf secondInterleaved passed oneMore onward taker afterBit posOf place run mapped startAt sentOf multiplexed capsOf runsOf slotPart slotShare sharePart slotBits spread frameOf
+halves = (refl, refl)

@@ -1,6 +1,7 @@
 pub mod FrameLaws
 pub mod TurnLaws
 pub mod ContentLaws
+pub mod ShareLaws
 pub mod SpreadLaws
 pub mod SendLaws
 pub mod Example

@@ -1,148 +1,157 @@
--- Laws of slots one after the other, as the code goes along them: where each begins, and one more of them written.
+-- Laws of the code's loops: parts one after the other, one more of them written, and what it lends of a slot.
 use mathlib.Core.Path.{_≡_, refl, sym, ap, ap₂, _∙_}
 use mathlib.Core.Bool.{Bool, true, false, cond}
-use mathlib.Core.List.{List, []}
+use mathlib.Core.List.{List}
 use Prim.Native.Nat.{ℕ, _+_, _*_, _-_, _≤_, _<_}
-use native.Mathlib.Nat.{zero-mul, one-mul}
+use native.Mathlib.Nat.{mul-add}
 use native.Mathlib.Omega.{arith}
 use borrow.Author.Tests.{eq-eqb, ne-eqb}
 use borrow.Rule.Slice.PartMut.{putMid}
 use lib.Dec.{eqb}
 use lib.ListN.{length, take, drop}
-use lib.Seq.{take-all}
 use Rattle.laws.specs.Sums.{sumTo}
 use Rattle.laws.specs.Joined.{joined}
 use Rattle.laws.proofs.SumLaws.{sum-more, sum-within}
+use Rattle.laws.proofs.FallLaws.{part-ends}
 use Rattle.laws.proofs.PartLaws.{part-length}
 use Rattle.laws.proofs.LaidLaws.{laid-none, laid-joined, laid-long, laid-all}
-use Rattle.laws.proofs.RowLaws.{rows-part, rows-same, one-row}
+use Rattle.laws.proofs.RowLaws.{rows-same}
 use Rattle.sheet.specs.Fields.{phchsOf}
 use Rattle.sheet.specs.Sizes.{slotCapacity, placesAll, subframesOf, capacityAll}
 use Rattle.sheet.specs.Range.{Accepted}
 use Rattle.sheet.specs.declared.Sheet.{Sheet}
-use Rattle.sheet.proofs.SizeLaws.{one-subframe, capacity-one}
+use Rattle.sheet.proofs.SizeLaws.{some-subframe}
 use Rattle.interleaving.specs.Second.{secondInterleaved}
 use Rattle.interleaving.proofs.SecondLaws.{second-length}
-use Rattle.mapping.specs.Mapping.{at, inRuns, slotSize, slotOf}
+use Rattle.mapping.specs.Mapping.{at, inRuns, slotOf}
 use Rattle.mapping.specs.Runs.{Coded}
 use Rattle.mapping.specs.declared.Runs.{Runs}
-use Rattle.mapping.proofs.MappedLaws.{mapped-length, mapped-over}
-use Rattle.frame.specs.Frame.{capsOf, runsOf, slotStart, slotPart, slotShare, sharePart, inSlots, slotBits, slotMapped, interleavedSlots, interleavedBits, mappedSlots, spread}
-use Rattle.frame.specs.Slots.{Spanned, Spans, RunsAt, Slotwise}
+use Rattle.mapping.proofs.MappedLaws.{mapped-over}
+use Rattle.frame.specs.Frame.{capsOf, runsOf, slotStart, slotPart, slotShare, sharePart, bitsFrom, bitsStart, slotPiece, slotBits, slotMapped, interleavedSlots, interleavedBits, mappedSlots, spread}
+use Rattle.frame.specs.Slots.{Spanned, Spans, RunsAt, Partwise}
 use Rattle.frame.specs.declared.spreading.Span.{Span}
-use Rattle.frame.proofs.FrameLaws.{caps-size, length-share, length-share-made}
+use Rattle.frame.proofs.FrameLaws.{caps-size, length-share}
+use Rattle.frame.proofs.ShareLaws.{share-of, piece-room, piece-is}
 use Rattle.frame.proofs.TurnLaws.{runs-some, turned-coded}
 
--- ---- slot after slot: what a loop holds
+-- ---- parts one after the other: what a loop holds
 
--- before the first slot
-pub slots-start : {A : Type 0} (sh : Sheet) (made : ℕ → List A) (o : List A) → Slotwise sh made o o 0 0
+-- before the first
+pub parts-start : {A : Type 0} (c : ℕ → ℕ) (n : ℕ) (made : ℕ → List A) (o : List A) → length o ≡ sumTo c n → {x : ℕ} → x ≡ 0 → Partwise c n made o o 0 x
 unfolding sumTo joined
-slots-start sh made o = record { some = omega arith; begins = refl; long = refl; laid = laid-none o }
+parts-start c n made o full {x} z = rw z (record { some = omega arith; begins = refl; full = full; long = refl; laid = laid-none o })
 
-module _ {A : Type 0} {sh : Sheet} {made : ℕ → List A} {o out : List A} {t a : ℕ} (h : Slotwise sh made o out t a) where
-  -- what is asked of a slot's span
-  pub span-asks : {n : ℕ} → Accepted sh × (n ≡ capacityAll sh) × (length o ≡ capacityAll sh) → t < sh .slots
-      → Spanned (sh .phchs) (sh .caps) t a (length out)
-  span-asks ask l =
+module _ {A : Type 0} {c : ℕ → ℕ} {n : ℕ} {made : ℕ → List A} {o out : List A} {i x : ℕ} (h : Partwise c n made o out i x) where
+  -- the next one, from x up to z, lies within the list; it was lent, and came back as y
+  module _ (l : i < n) {z : ℕ} (ez : z ≡ x + c i) where
+    pub next-within : z ≤ length out
+    next-within = omega (arith, h .begins, h .full, h .long, sum-within c i n l)
+
+    pub next-long : length (take (z - x) (drop x out)) ≡ c i
+    next-long = part-length out x z (omega arith) next-within ∙ omega arith
+
+    pub parts-turn : {j : ℕ} → j ≡ i + 1 → {y : List A} → length y ≡ length (take (z - x) (drop x out)) → y ≡ made i
+        → Partwise c n made o (putMid x (z - x) out y) j z
+    parts-turn {j} ej {y} m e =
+        let d = laid-joined made o out x z i (h .laid) (omega arith) (m ∙ part-length out x z (omega arith) next-within) e in
+        rw ej
+        (record {
+          some = omega arith;
+          begins = ez ∙ sum-more c i (h .begins) refl;
+          full = h .full;
+          long = laid-long o _ z _ d (omega (arith, h .long, next-within));
+          laid = d;
+        })
+
+  -- after the last
+  pub parts-end : n ≤ i → out ≡ joined made n
+  parts-end l =
+      let e : i ≡ n = omega (arith, h .some) in
+      laid-all o out x _ (h .laid) (h .begins ∙ ap (sumTo c) e ∙ sym (h .full)) ∙ ap (joined made) e
+
+-- ---- a slot as the code lends it
+
+-- a frame has a sub-frame at least
+pub places-within : (sh : Sheet) → placesAll sh ≤ capacityAll sh
+places-within sh = omega (arith, part-ends 0 (subframesOf sh) (placesAll sh) (some-subframe sh))
+
+module _ (sh : Sheet) (t : ℕ) {a : ℕ} (ea : a ≡ slotStart sh t) where
+  -- what is asked of its span
+  pub span-asks : Accepted sh → t < sh .slots → {most : ℕ} → placesAll sh ≤ most → Spanned (sh .phchs) (sh .caps) t a most
+  span-asks ok l b =
       record {
-        slot = omega (arith, ask .0 .ranged .few-slots);
-        codes = ask .0 .ranged .phch16 t l;
-        room = omega (arith, ask .2, h .begins, h .long, sum-within (slotCapacity sh) t (sh .slots) l, capacity-one sh);
+        slot = omega (arith, ok .ranged .few-slots);
+        codes = ok .ranged .phch16 t l;
+        room = omega (arith, ea, sum-within (slotCapacity sh) t (sh .slots) l);
       }
 
-  -- one slot more
-  pub slots-turn : {s : Span} → Spans (sh .phchs) (sh .caps) t a (length out) s → t < sh .slots → {y : List A}
-      → (length y ≡ s .end - a) × (y ≡ made t) → Slotwise sh made o (putMid a (s .end - a) out y) (s .next) (s .end)
-  slots-turn {s} p l {y} y-is =
-      let d = laid-joined made o out a (s .end) t (h .laid) (omega (arith, p .end)) (y-is .0) (y-is .1) in
-      rw (p .next)
-      (record {
-        some = omega arith;
-        begins = p .end ∙ sum-more (slotCapacity sh) t (h .begins) refl;
-        long = laid-long o _ (s .end) _ d (omega (arith, p .within, h .long));
-        laid = d;
-      })
+  module _ {most : ℕ} {s : Span} (p : Spans (sh .phchs) (sh .caps) t a most s) where
+    pub span-size : s .end - a ≡ slotCapacity sh t
+    span-size = omega (arith, p .end)
 
-  -- after the last one
-  pub slots-end : sh .slots ≤ t → length o ≡ capacityAll sh → out ≡ joined made (sh .slots)
-  slots-end l full =
-      let e : t ≡ sh .slots = omega (arith, h .some) in
-      laid-all o out a _ (h .laid) (h .begins ∙ ap (slotStart sh) e ∙ capacity-one sh ∙ sym full) ∙ ap (joined made) e
+    pub span-next : s .end ≡ slotStart sh (s .next)
+    span-next = p .end ∙ sum-more (slotCapacity sh) t ea refl ∙ ap (slotStart sh) (sym (p .next))
 
--- ---- a slot as the code lends it, the frame having one sub-frame
+    pub caps-lent : take (s .to - s .from) (drop (s .from) (sh .caps)) ≡ capsOf sh t
+    unfolding capsOf
+    caps-lent =
+        let e : s .to - s .from ≡ phchsOf sh t = omega (arith, p .to, p .from) in
+        ap₂ (λ (x y : ℕ). take x (drop y (sh .caps))) e (p .from)
 
-module _ (sh : Sheet) (t : ℕ) {a : ℕ} (ea : a ≡ slotStart sh t) {most : ℕ} {s : Span} (p : Spans (sh .phchs) (sh .caps) t a most s) where
-  span-size : s .end - a ≡ slotCapacity sh t
-  span-size = omega (arith, p .end)
+    -- its share, k being the number of sub-frames
+    module _ {k : ℕ} (ek : k ≡ subframesOf sh) where
+      pub share-size : k * s .end ≡ k * a + subframesOf sh * slotCapacity sh t
+      share-size = ap (λ (x : ℕ). k * x) (p .end) ∙ mul-add k a (slotCapacity sh t) ∙ ap (λ (x : ℕ). k * a + x * slotCapacity sh t) ek
 
-  pub caps-lent : take (s .to - s .from) (drop (s .from) (sh .caps)) ≡ capsOf sh t
-  unfolding capsOf
-  caps-lent =
-      let e : s .to - s .from ≡ phchsOf sh t = omega (arith, p .to, p .from) in
-      ap₂ (λ (x y : ℕ). take x (drop y (sh .caps))) e (p .from)
+      pub share-lent : {A : Type 0} (xs : List A) → take (k * s .end - k * a) (drop (k * a) xs) ≡ slotShare sh t xs
+      unfolding slotShare
+      share-lent xs =
+          let n : k * s .end - k * a ≡ subframesOf sh * slotCapacity sh t = omega (arith, share-size) in
+          ap₂ (λ (x y : ℕ). take x (drop y xs)) n (ap₂ _*_ ek ea)
 
-  module _ {A : Type 0} (xs : List A) where
-    pub part-lent : take (s .end - a) (drop a xs) ≡ slotPart sh 0 t xs
-    unfolding slotPart
-    part-lent =
-        let z : a ≡ 0 * placesAll sh + slotStart sh t = omega (arith, ea, zero-mul (placesAll sh)) in
-        ap₂ (λ (x y : ℕ). take x (drop y xs)) span-size z
+    -- its bits of sub-frame h, from b up to f
+    module _ (h : ℕ) {k w b f : ℕ} (ek : k ≡ subframesOf sh) (ew : w ≡ placesAll sh) (eb : b ≡ bitsFrom (sh .mode) k h w a (s .end - a)) (ef : f ≡ b + (s .end - a)) where
+      pub start-is : b ≡ bitsStart sh h t
+      unfolding bitsStart
+      start-is =
+          eb
+          ∙ ap₂ (λ (x y : ℕ). bitsFrom (sh .mode) x h y a (s .end - a)) ek ew
+          ∙ ap₂ (bitsFrom (sh .mode) (subframesOf sh) h (placesAll sh)) ea span-size
 
-    share-lent : take (s .end - a) (drop a xs) ≡ slotShare sh t xs
-    unfolding slotShare
-    share-lent =
-        let c = one-mul (slotCapacity sh t) in
-        let b = one-mul (slotStart sh t) in
-        ap₂ (λ (x y : ℕ). take x (drop y xs)) (span-size ∙ sym c) (ea ∙ sym b)
-        ∙ ap (λ (k : ℕ). take (k * slotCapacity sh t) (drop (k * slotStart sh t) xs)) (sym (one-subframe sh))
+      pub piece-ends : h < subframesOf sh → t < sh .slots → f ≤ capacityAll sh
+      piece-ends m l = omega (arith, start-is, span-size, piece-room sh h t m l)
 
-    -- the one sub-frame has the slot's whole share
-    pub share-whole : (ys : List A) → length ys ≡ slotCapacity sh t → sharePart sh 0 t ys ≡ ys
-    unfolding sharePart
-    share-whole ys n =
-        ap (λ (x : ℕ). take (slotCapacity sh t) (drop x ys)) (zero-mul (slotCapacity sh t)) ∙ take-all (slotCapacity sh t) ys (omega arith)
+      pub piece-lent : {A : Type 0} (xs : List A) → take (f - b) (drop b xs) ≡ slotPiece sh h t xs
+      unfolding slotPiece
+      piece-lent xs =
+          let n : f - b ≡ slotCapacity sh t = omega (arith, span-size) in
+          ap₂ (λ (x y : ℕ). take x (drop y xs)) n start-is
 
-    module _ (l : t < sh .slots) (full : length xs ≡ capacityAll sh) where
-      pub lent-long : length (take (s .end - a) (drop a xs)) ≡ s .end - a
-      lent-long =
-          part-length xs a (s .end) (omega (arith, p .end)) (omega (arith, p .end, ea, full, capacity-one sh, sum-within (slotCapacity sh) t (sh .slots) l))
+    -- step 9: what is asked of the slot, and what is made of its bits, whatever stood at its places
+    module _ (ok : Accepted sh) (l : t < sh .slots) {r : Runs} (k : RunsAt sh t r) {caps : List ℕ} (ec : caps ≡ sh .caps) where
+      pub slot-fits : {n m : ℕ} → n ≡ slotCapacity sh t → m ≡ slotCapacity sh t
+          → Coded (take (s .to - s .from) (drop (s .from) caps)) (r .first) (r .other) n m
+      slot-fits en em =
+          let z = sym (caps-size sh ok t l) in
+          rw (ec, caps-lent) (turned-coded sh t ok l k (record { bits = en ∙ z; room = em ∙ z }))
 
-      -- mode 1
-      pub share-made : secondInterleaved (take (s .end - a) (drop a xs)) ≡ sharePart sh 0 t (secondInterleaved (slotShare sh t xs))
-      share-made =
-          ap secondInterleaved share-lent
-          ∙ sym (share-whole (secondInterleaved (slotShare sh t xs)) (second-length (slotShare sh t xs) ∙ ap length (sym share-lent) ∙ lent-long ∙ span-size))
+      pub slot-made : (bits out : List ℕ) → length bits ≡ slotCapacity sh t → length out ≡ slotCapacity sh t → {y : List ℕ}
+          → y ≡ slotOf (inRuns (r .first) (r .other)) (take (s .to - s .from) (drop (s .from) caps)) bits out
+          → y ≡ slotMapped sh t bits
+      slot-made bits out n m {y} e =
+          let z = sym (caps-size sh ok t l) in
+          let q : y ≡ slotOf (runsOf sh t) (capsOf sh t) bits out = rw (ec, caps-lent, ← k .runs) at e in
+          q ∙ mapped-over (at (capsOf sh t)) (runsOf sh t) (length (capsOf sh t)) (λ j h. runs-some sh t j) 0 bits out bits (n ∙ z) (m ∙ z) (n ∙ z)
 
-      lent-size : Accepted sh → length (take (s .end - a) (drop a xs)) ≡ slotSize (capsOf sh t)
-      lent-size ok = lent-long ∙ span-size ∙ sym (caps-size sh ok t l)
+-- its span by the arrays as they are lent beside the sheet
+module _ (sh : Sheet) {phchs caps : List ℕ} (ep : phchs ≡ sh .phchs) (ec : caps ≡ sh .caps) {t a most : ℕ} where
+  pub lent-asks : Spanned (sh .phchs) (sh .caps) t a most → Spanned phchs caps t a most
+  lent-asks x = rw (ep, ec) x
 
-  -- step 9: what is asked of a slot, and what it is made of its part of the bits, whatever stood there
-  module _ (ok : Accepted sh) (l : t < sh .slots) where
-    pub slot-fits : {A B : Type 0} (bits : List A) (out : List B) → length bits ≡ capacityAll sh → length out ≡ capacityAll sh → {r : Runs} → RunsAt sh t r
-        → Coded (take (s .to - s .from) (drop (s .from) (sh .caps))) (r .first) (r .other) (length (take (s .end - a) (drop a bits)))
-        (length (take (s .end - a) (drop a out)))
-    slot-fits bits out n m k = rw caps-lent (turned-coded sh t ok l k (record { bits = lent-size bits l n ok; room = lent-size out l m ok }))
+  pub lent-span : {s : Span} → Spans phchs caps t a most s → Spans (sh .phchs) (sh .caps) t a most s
+  lent-span x = rw (← ep, ← ec) x
 
-    pub slot-made : (bits out : List ℕ) → length bits ≡ capacityAll sh → length out ≡ capacityAll sh → {r : Runs} → RunsAt sh t r → {y : List ℕ}
-        → y ≡ slotOf (inRuns (r .first) (r .other)) (take (s .to - s .from) (drop (s .from) (sh .caps))) (take (s .end - a) (drop a bits)) (take (s .end - a) (drop a out))
-        → (length y ≡ s .end - a) × (y ≡ slotMapped sh t (slotPart sh 0 t bits))
-    slot-made bits out n m {r} k {y} e =
-        let b = take (s .end - a) (drop a bits) in
-        let o = take (s .end - a) (drop a out) in
-        let q : y ≡ slotOf (runsOf sh t) (capsOf sh t) b o = rw (caps-lent, ← k .runs) at e in (
-          ap length q ∙ mapped-length (at (capsOf sh t)) (runsOf sh t) (length (capsOf sh t)) b o ∙ lent-long out l m,
-          q
-              ∙ mapped-over (at (capsOf sh t)) (runsOf sh t) (length (capsOf sh t)) (λ j h. runs-some sh t j) 0 b o b (lent-size bits l n ok)
-              (lent-size out l m ok) (lent-size bits l n ok)
-              ∙ ap (slotMapped sh t) (part-lent bits),
-        )
-
--- the slots of one sub-frame are the frame
-pub one-frame : {A : Type 0} (sh : Sheet) (g : ℕ → ℕ → List A) → joined (g 0) (sh .slots) ≡ inSlots sh g
-one-frame sh g = one-row g (sh .slots) (one-subframe sh)
-
--- ---- step 8 by the mode, and the slots of what it gives
+-- ---- step 8 by the mode, and the pieces of what it gives
 
 module _ {A : Type 0} (sh : Sheet) (xs : List A) (full : length xs ≡ capacityAll sh) where
   pub over-all : sh .mode ≡ 0 → secondInterleaved xs ≡ interleavedBits sh xs
@@ -153,16 +162,19 @@ module _ {A : Type 0} (sh : Sheet) (xs : List A) (full : length xs ≡ capacityA
   unfolding interleavedBits
   by-slots z = sym (ap (λ (b : Bool). cond b (secondInterleaved xs) (interleavedSlots sh xs)) (ne-eqb (sh .mode) 0 z))
 
-  part-of : (b : Bool) (h t : ℕ) → h < subframesOf sh → t < sh .slots
-      → slotPart sh h t (cond b (secondInterleaved xs) (interleavedSlots sh xs))
-      ≡ cond b (slotPart sh h t (secondInterleaved xs)) (sharePart sh h t (secondInterleaved (slotShare sh t xs)))
-  part-of true h t k l = refl
-  part-of false h t k l =
-      unfold slotPart interleavedSlots in
-      rows-part (slotCapacity sh) (λ i j. sharePart sh i j (secondInterleaved (slotShare sh j xs))) (subframesOf sh) (sh .slots)
-      (λ i j m n. length-share-made sh j n xs full i m) h t k l
+  -- the piece that a slot has in a sub-frame
+  piece-of : (h t : ℕ) → h < subframesOf sh → t < sh .slots → slotPiece sh h t (interleavedBits sh xs) ≡ slotBits sh xs h t
+  unfolding interleavedBits interleavedSlots slotBits
+  piece-of h t k l = piece-is sh h t k l (interleavedBits sh xs) ∙ by (eqb (sh .mode) 0)
+    where
+      by : (b : Bool)
+          → (let ys = cond b (secondInterleaved xs) (joined (λ i. secondInterleaved (slotShare sh i xs)) (sh .slots)) in
+          cond b (slotPart sh h t ys) (sharePart sh h t (slotShare sh t ys)))
+          ≡ cond b (slotPart sh h t (secondInterleaved xs)) (sharePart sh h t (secondInterleaved (slotShare sh t xs)))
+      by true = refl
+      by false = ap (sharePart sh h t) (share-of sh (λ i. secondInterleaved (slotShare sh i xs)) (λ i m. second-length (slotShare sh i xs) ∙ length-share sh i m xs full) t l)
 
   -- and mapped they are the frame
   pub spread-is : mappedSlots sh (interleavedBits sh xs) ≡ spread sh xs
-  unfolding mappedSlots spread interleavedBits slotBits
-  spread-is = rows-same _ _ (subframesOf sh) (sh .slots) (λ h t k l. ap (slotMapped sh t) (part-of (eqb (sh .mode) 0) h t k l))
+  unfolding mappedSlots spread
+  spread-is = rows-same _ _ (subframesOf sh) (sh .slots) (λ h t k l. ap (slotMapped sh t) (piece-of h t k l))

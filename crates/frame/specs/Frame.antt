@@ -88,9 +88,9 @@ unfoldable pub slotBits : {A : Type 0} → Sheet → List A → ℕ → ℕ → 
 slotBits sh xs h t =
     cond (eqb (sh .mode) 0) (slotPart sh h t (secondInterleaved xs)) (sharePart sh h t (secondInterleaved (slotShare sh t xs)))
 
--- each slot's share by itself, in the frame's order: step 8 in mode 1
+-- step 8 in mode 1: each slot's share by itself. The interleaved bits are kept share after share, as they come
 unfoldable pub interleavedSlots : {A : Type 0} → Sheet → List A → List A
-interleavedSlots sh xs = inSlots sh (λ h t. sharePart sh h t (secondInterleaved (slotShare sh t xs)))
+interleavedSlots sh xs = joined (λ t. secondInterleaved (slotShare sh t xs)) (sh .slots)
 
 -- step 8, by the mode
 unfoldable pub interleavedBits : {A : Type 0} → Sheet → List A → List A
@@ -104,9 +104,12 @@ slotMapped sh t bits = slotOf (runsOf sh t) (capsOf sh t) bits bits
 unfoldable pub spread : {A : Type 0} → Sheet → List A → List A
 spread sh xs = inSlots sh (λ h t. slotMapped sh t (slotBits sh xs h t))
 
--- step 9 of bits that are interleaved already
+-- step 9 of bits that are interleaved already: of sub-frame h, and of all
+unfoldable pub mappedSubframe : {A : Type 0} → Sheet → ℕ → List A → List A
+mappedSubframe sh h xs = joined (λ t. slotMapped sh t (slotPiece sh h t xs)) (sh .slots)
+
 unfoldable pub mappedSlots : {A : Type 0} → Sheet → List A → List A
-mappedSlots sh xs = inSlots sh (λ h t. slotMapped sh t (slotPart sh h t xs))
+mappedSlots sh xs = inSlots sh (λ h t. slotMapped sh t (slotPiece sh h t xs))
 
 -- steps 2 to 9
 unfoldable pub frameOf : {A B : Type 0} → (A → ℕ → B) → Sheet → ℕ → (ℕ → List A) → List B

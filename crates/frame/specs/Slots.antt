@@ -1,9 +1,10 @@
--- How the code goes along the slots of a frame, one after the other.
+-- How the code goes along the sub-frames and slots of a frame, one after the other.
 use mathlib.Core.Path.{_≡_}
 use mathlib.Core.List.{List}
 use mathlib.Core.Logic.{_⊎_}
 use Prim.Native.Nat.{ℕ, _+_, _*_, _≤_, _<_}
 use lib.ListN.{length, getD}
+use Rattle.laws.specs.Sums.{sumTo}
 use Rattle.laws.specs.Laid.{Laid}
 use Rattle.laws.specs.Joined.{joined}
 use Rattle.sheet.specs.Counts.{mostSlots, mostCodes, mostPaired, mostCapacities}
@@ -13,7 +14,7 @@ use Rattle.sheet.specs.declared.Sheet.{Sheet}
 use Rattle.mapping.specs.Mapping.{inRuns}
 use Rattle.mapping.specs.Runs.{Short}
 use Rattle.mapping.specs.declared.Runs.{Runs}
-use Rattle.frame.specs.Frame.{runsOf, slotStart}
+use Rattle.frame.specs.Frame.{runsOf}
 use Rattle.frame.specs.declared.spreading.Span.{Span}
 
 -- slot t by the arrays of a sheet: it exists, and its part, which begins at a, ends at `most` or before
@@ -37,9 +38,10 @@ pub record RunsAt (sh : Sheet) (t : ℕ) (r : Runs) : Type 0 where
   pub short : Short (r .first) (r .other)
   pub few : (phchsOf sh t ≤ mostPaired) ⊎ ((r .first ≡ 1) × (r .other ≡ 1))
 
--- the list that was o begins with what is made of the first t slots, up to a
-pub record Slotwise {A : Type 0} (sh : Sheet) (made : ℕ → List A) (o out : List A) (t a : ℕ) : Type 0 where
-  pub some : t ≤ sh .slots
-  pub begins : a ≡ slotStart sh t
+-- of n parts that fill the list o one after the other, part i being c i long: the first i of them are there, up to x
+pub record Partwise {A : Type 0} (c : ℕ → ℕ) (n : ℕ) (made : ℕ → List A) (o out : List A) (i x : ℕ) : Type 0 where
+  pub some : i ≤ n
+  pub begins : x ≡ sumTo c i
+  pub full : length o ≡ sumTo c n
   pub long : length out ≡ length o
-  pub laid : Laid o out a (joined made t)
+  pub laid : Laid o out x (joined made i)

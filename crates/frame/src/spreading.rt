@@ -3,9 +3,9 @@ ghost use mathlib.Core.Path.{_≡_};
 ghost use Prim.Native.Nat.{_-_, _≤_, _<_};
 ghost use lib.ListN.{length};
 ghost use Rattle.sheet.specs.Counts.{mostSubframes, mostBits};
-ghost use Rattle.sheet.specs.Sizes.{capacityAll};
+ghost use Rattle.sheet.specs.Sizes.{placesAll, subframesOf, capacityAll};
 ghost use Rattle.sheet.specs.Range.{Accepted};
-ghost use Rattle.frame.specs.Frame.{bitsFrom, interleavedSlots, interleavedBits, mappedSlots, spread};
+ghost use Rattle.frame.specs.Frame.{bitsFrom, interleavedSlots, interleavedBits, mappedSubframe, mappedSlots, spread};
 ghost use Rattle.frame.specs.Slots.{Spanned, Spans, RunsAt};
 use mapping::Runs;
 use mapping::runs_of;
@@ -13,9 +13,12 @@ use sheet::Sheet;
 use sheet::count;
 use sheet::counts::CAPACITIES;
 use sheet::counts::CODES;
+use sheet::counts::LOGS;
 use sheet::counts::PAIRED;
 use sheet::counts::SLOTS;
 use sheet::sizes::slot_load;
+use sheet::sizes::subframe_places;
+use sheet::sizes::subframes;
 
 // A slot: its capacities stand from `from` up to `to` in the array of all, its part of the frame ends at `end`; and the slot after it.
 pub struct Span {
@@ -61,7 +64,26 @@ pub fn bits_start(mode: u16, k: usize, h: usize, w: usize, a: usize, e: usize) -
     k * a + h * (e - a)
 }
 
-// How many bits each physical channel of slot t takes at its turn.
+// How many bits each physical channel of slot t takes at its turn. The arrays are lent, so that a loop over slots copies none of the struct.
+pub fn runs_lent<'a>(
+    fields: Sheet,
+    phchs: &'a [u16; SLOTS],
+    logs: &'a [u16; LOGS],
+    t: usize,
+) -> Runs
+    requires { ⌜ Accepted fields × (now phchs ≡ fields .phchs) × (now logs ≡ fields .logs) × (t < fields .slots) ⌝ }
+    ensures { λ r. ⌜ RunsAt fields t r ⌝ }
+{
+    if fields.uplink == 0 {
+        return Runs { first: 1, other: 1 };
+    }
+    if count(phchs[t]) != PAIRED {
+        return Runs { first: 1, other: 1 };
+    }
+    runs_of(logs[PAIRED * t], logs[PAIRED * t + 1])
+}
+
+// The same for one slot, out of the fields alone. In downlink no array is read.
 pub fn runs_at(fields: Sheet, t: usize) -> Runs
     requires { ⌜ Accepted fields × (t < fields .slots) ⌝ }
     ensures { λ r. ⌜ RunsAt fields t r ⌝ }
@@ -70,18 +92,16 @@ pub fn runs_at(fields: Sheet, t: usize) -> Runs
         return Runs { first: 1, other: 1 };
     }
     let phchs = fields.phchs;
-    if count(phchs[t]) != PAIRED {
-        return Runs { first: 1, other: 1 };
-    }
     let logs = fields.logs;
-    runs_of(logs[PAIRED * t], logs[PAIRED * t + 1])
+    runs_lent(fields, &phchs, &logs, t)
 }
 
-// Mode 1: each slot's part interleaved by itself.
+// Mode 1: each slot's share interleaved by itself. It has k times the slot's places.
 fn interleave_slots(bits: &[u8], fields: Sheet, out: &mut [u8])
     requires { ⌜ Accepted fields × (length (now bits) ≡ capacityAll fields) × (length (now out) ≡ capacityAll fields) ⌝ }
     ensures { λ _. ⌜ now (out .exit) ≡ interleavedSlots fields (now (bits .entry)) ⌝ }
 {
+    let k = subframes(fields);
     let phchs = fields.phchs;
     let caps = fields.caps;
     let mut t: usize = 0;
@@ -89,30 +109,62 @@ fn interleave_slots(bits: &[u8], fields: Sheet, out: &mut [u8])
     while t < count(fields.slots) {
         let s = span_of(&phchs, &caps, t, a, out.len());
         let e = s.end;
-        interleaving::second::interleave(&bits[a..e], &mut out[a..e]);
+        let from = k * a;
+        let to = k * e;
+        interleaving::second::interleave(&bits[from..to], &mut out[from..to]);
         a = e;
         t = s.next;
     }
 }
 
-// Step 9: slot after slot, of bits that are interleaved already.
+// Step 9 of sub-frame h, slot after slot, of bits that are interleaved already. The arrays are lent: a struct's would be copied for each sub-frame.
+fn map_subframe<'a>(
+    bits: &[u8],
+    fields: Sheet,
+    phchs: &'a [u16; SLOTS],
+    caps: &'a [u16; CAPACITIES],
+    logs: &'a [u16; LOGS],
+    h: usize,
+    out: &mut [u8],
+)
+    requires { ⌜ Accepted fields × (now phchs ≡ fields .phchs) × (now caps ≡ fields .caps) × (now logs ≡ fields .logs) × (h < subframesOf fields) × (length (now bits) ≡ capacityAll fields) × (length (now out) ≡ placesAll fields) ⌝ }
+    ensures { λ _. ⌜ now (out .exit) ≡ mappedSubframe fields h (now (bits .entry)) ⌝ }
+{
+    let all: &[u16] = caps;
+    let k = subframes(fields);
+    let mut t: usize = 0;
+    let mut a: usize = 0;
+    while t < count(fields.slots) {
+        let runs = runs_lent(fields, phchs, logs, t);
+        let s = span_of(phchs, caps, t, a, out.len());
+        let from = s.from;
+        let to = s.to;
+        let e = s.end;
+        let b = bits_start(fields.mode, k, h, out.len(), a, e);
+        let f = b + (e - a);
+        mapping::map_slot(&bits[b..f], &all[from..to], runs, &mut out[a..e]);
+        a = e;
+        t = s.next;
+    }
+}
+
+// Step 9, sub-frame after sub-frame.
 fn map_slots(bits: &[u8], fields: Sheet, out: &mut [u8])
     requires { ⌜ Accepted fields × (length (now bits) ≡ capacityAll fields) × (length (now out) ≡ capacityAll fields) ⌝ }
     ensures { λ _. ⌜ now (out .exit) ≡ mappedSlots fields (now (bits .entry)) ⌝ }
 {
+    let k = subframes(fields);
+    let w = subframe_places(fields, out.len());
     let phchs = fields.phchs;
     let caps = fields.caps;
-    let mut t: usize = 0;
+    let logs = fields.logs;
+    let mut h: usize = 0;
     let mut a: usize = 0;
-    while t < count(fields.slots) {
-        let runs = runs_at(fields, t);
-        let s = span_of(&phchs, &caps, t, a, out.len());
-        let from = s.from;
-        let to = s.to;
-        let e = s.end;
-        mapping::map_slot(&bits[a..e], &caps[from..to], runs, &mut out[a..e]);
+    while h < k {
+        let e = a + w;
+        map_subframe(bits, fields, &phchs, &caps, &logs, h, &mut out[a..e]);
         a = e;
-        t = s.next;
+        h += 1;
     }
 }
 

@@ -1,4 +1,5 @@
 pub mod GatherLaws
+pub mod PieceLaws
 pub mod FinishLaws
 pub mod Taken
 pub mod Labelled

@@ -1,4 +1,5 @@
 pub mod Gather
+pub mod Pieces
 pub mod Home
 pub mod Received
 pub mod Taking

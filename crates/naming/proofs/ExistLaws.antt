@@ -3,14 +3,12 @@ use mathlib.Core.Path.{_≡_, sym, ap, _∙_}
 use mathlib.Core.Logic.{_↔_}
 use mathlib.Core.Bool.{Bool, true, false, _&&_}
 use Prim.Native.Nat.{ℕ, _-_}
-use native.Mathlib.Omega.{arith}
 use Rattle.counters.specs.Counting.{among}
 use Rattle.counters.proofs.CountLaws.{both-true, among-true, true-among}
 use Rattle.sheet.specs.Fields.{phchsOf, capacityOf}
 use Rattle.sheet.specs.Sizes.{subframesOf}
 use Rattle.sheet.specs.declared.Sheet.{Sheet}
-use Rattle.sheet.proofs.SizeLaws.{one-subframe}
-use Rattle.naming.specs.Name.{hasPlace, onlySubframe, Exists}
+use Rattle.naming.specs.Name.{hasPlace, Exists}
 
 -- the tests from the physical channel on, and from the slot on
 abbrev inPhch : Sheet → ℕ → ℕ → ℕ → Bool
@@ -19,15 +17,8 @@ inPhch sh slot phch place = among phch (phchsOf sh (slot - 1)) && among place (c
 abbrev inSlot : Sheet → ℕ → ℕ → ℕ → Bool
 inSlot sh slot phch place = among slot (sh .slots) && inPhch sh slot phch place
 
--- the one sub-frame is there, and no other
-pub first-subframe : (sh : Sheet) → among onlySubframe (subframesOf sh) ≡ true
-first-subframe sh = true-among onlySubframe (subframesOf sh) (omega arith) (omega (arith, one-subframe sh))
-
-pub only-one : (sh : Sheet) (subframe slot phch place : ℕ) → Exists sh subframe slot phch place → subframe ≡ onlySubframe
-only-one sh subframe slot phch place e = omega (arith, one-subframe sh, e .subframe-from, e .subframe-to)
-
--- the test, as far as it goes, in a sub-frame that is there
 module _ (sh : Sheet) (subframe slot phch place : ℕ) where
+  -- the test, as far as it goes, in a sub-frame that is there
   module _ (h : among subframe (subframesOf sh) ≡ true) where
     slot-next : {b : Bool} → inSlot sh slot phch place ≡ b → b ≡ hasPlace sh subframe slot phch place
     unfolding hasPlace
@@ -45,6 +36,11 @@ module _ (sh : Sheet) (subframe slot phch place : ℕ) where
 
     pub asked-slot : among slot (sh .slots) ≡ false → false ≡ hasPlace sh subframe slot phch place
     asked-slot s = slot-next (ap (λ (b : Bool). b && inPhch sh slot phch place) s)
+
+  -- and in one that is not
+  pub asked-subframe : among subframe (subframesOf sh) ≡ false → false ≡ hasPlace sh subframe slot phch place
+  unfolding hasPlace
+  asked-subframe h = sym (ap (λ (b : Bool). b && inSlot sh slot phch place) h)
 
   -- the test is true exactly where the place exists
   pub exists : (hasPlace sh subframe slot phch place ≡ true) ↔ Exists sh subframe slot phch place

@@ -3,24 +3,21 @@ use mathlib.Core.Path.{_≡_, refl, sym, ap, ap₂, _∙_}
 use mathlib.Core.Bool.{Bool}
 use mathlib.Core.List.{List}
 use Prim.Native.Nat.{ℕ, _+_, _*_, _-_, _≤_, _<_}
-use native.Mathlib.Nat.{zero-mul, one-mul}
 use native.Mathlib.Omega.{arith}
 use borrow.Author.Tests.{eq-eqb, ne-eqb}
 use lib.ListN.{length, getD, take, drop}
 use Rattle.laws.specs.Sums.{sumTo}
-use Rattle.laws.proofs.SumLaws.{sum-more, sum-within}
-use Rattle.sheet.specs.Counts.{mostSlots, mostCodes, mostCapacities, mostBits}
+use Rattle.laws.proofs.SumLaws.{sum-more}
+use Rattle.sheet.specs.Counts.{mostSlots, mostCodes, mostCapacities}
 use Rattle.sheet.specs.Fields.{phchsOf, capacityOf}
-use Rattle.sheet.specs.Sizes.{slotCapacity, placesAll, subframesOf, capacityAll}
+use Rattle.sheet.specs.Sizes.{slotCapacity, subframesOf, capacityAll}
 use Rattle.sheet.specs.Numbers.{slotLoad, wholeLoad}
 use Rattle.sheet.specs.Range.{Accepted}
 use Rattle.sheet.specs.declared.Sheet.{Sheet}
-use Rattle.sheet.proofs.SizeLaws.{one-subframe, capacity-one}
 use Rattle.interleaving.specs.Second.{comesFrom}
 use Rattle.mapping.specs.Mapping.{numberOf, filledAs, inRuns, at}
 use Rattle.mapping.specs.Runs.{Short}
 use Rattle.mapping.specs.declared.Runs.{Runs}
-use Rattle.opening.proofs.OpenLaws.{capacity-most}
 use Rattle.frame.specs.Frame.{capsOf, slotStart, subframeStart}
 use Rattle.frame.specs.Slots.{RunsAt}
 use Rattle.frame.proofs.FrameLaws.{caps-at, caps-length}
@@ -57,13 +54,6 @@ module _ (sh : Sheet) (ok : Accepted sh) (t : ℕ) (l : t < sh .slots) {phchs ca
         ∙ ap₂ (λ (B : ℕ → ℕ) (c : List ℕ). numberOf (at c) B (length c) p (filledAs (at c p) (p + 1) place)) (sym (k .runs)) lent-caps
         ∙ bit-by-caps sh ok t l p place h
 
--- a slot lies within the frame
-pub slot-inside : (sh : Sheet) → Accepted sh → (t : ℕ) → t < sh .slots
-    → (slotStart sh t + slotCapacity sh t ≤ mostBits) × (slotStart sh t + slotCapacity sh t ≤ capacityAll sh)
-slot-inside sh ok t l =
-    let b = sum-within (slotCapacity sh) t (sh .slots) l in
-    (omega (arith, b, capacity-one sh, capacity-most sh ok), omega (arith, b, capacity-one sh))
-
 -- one capacity is its sum
 pub one-size : (caps : List ℕ) (from : ℕ) {n r : ℕ} → n ≡ 1 → r ≡ getD caps from 0 → r ≡ slotLoad caps from n .sum
 unfolding sumTo
@@ -90,19 +80,13 @@ module _ (sh : Sheet) (ok : Accepted sh) (t : ℕ) (l : t < sh .slots) {phchs ca
     pub size-is : {r : ℕ} → r ≡ slotLoad caps (mostCodes * t) n .sum → r ≡ slotCapacity sh t
     size-is q = q ∙ ap₂ (λ (c : List ℕ) (k : ℕ). slotLoad c (mostCodes * t) k .sum) ec (lent-count sh ok t l ep ec e)
 
--- step 8, by the mode, the frame having one sub-frame
-module _ (sh : Sheet) (t k : ℕ) where
-  pub read-over : {K j r : ℕ} → sh .mode ≡ 0 → K ≡ capacityAll sh → j ≡ slotStart sh t + k → r ≡ comesFrom K j → r ≡ readFrom sh 0 t k
+-- step 8, by the mode
+module _ (sh : Sheet) (h t k : ℕ) where
+  pub read-over : {n j r : ℕ} → sh .mode ≡ 0 → n ≡ capacityAll sh → j ≡ subframeStart sh h + (slotStart sh t + k) → r ≡ comesFrom n j → r ≡ readFrom sh h t k
   unfolding readFrom
-  read-over {j = j} z p q e =
-      let w : j ≡ subframeStart sh 0 + (slotStart sh t + k) = omega (arith, q, zero-mul (placesAll sh)) in
-      e ∙ ap₂ comesFrom p w ∙ sym (ap (λ (b : Bool). readBy sh b 0 t k) (eq-eqb (sh .mode) 0 z))
+  read-over z p q e = e ∙ ap₂ comesFrom p q ∙ sym (ap (λ (b : Bool). readBy sh b h t k) (eq-eqb (sh .mode) 0 z))
 
-  pub read-each : {s K r : ℕ} → (sh .mode ≡ 0 → ⊥) → s ≡ slotStart sh t → K ≡ slotCapacity sh t → r ≡ comesFrom K k → s + r ≡ readFrom sh 0 t k
+  pub read-each : {b n j r : ℕ} → (sh .mode ≡ 0 → ⊥) → b ≡ subframesOf sh * slotStart sh t → n ≡ subframesOf sh * slotCapacity sh t
+      → j ≡ h * slotCapacity sh t + k → r ≡ comesFrom n j → b + r ≡ readFrom sh h t k
   unfolding readFrom
-  read-each {s} {K} z p q e =
-      let one = one-subframe sh in
-      let a : s ≡ subframesOf sh * slotStart sh t = p ∙ sym (ap (λ (n : ℕ). n * slotStart sh t) one ∙ one-mul (slotStart sh t)) in
-      let c : K ≡ subframesOf sh * slotCapacity sh t = q ∙ sym (ap (λ (n : ℕ). n * slotCapacity sh t) one ∙ one-mul (slotCapacity sh t)) in
-      let j : k ≡ 0 * slotCapacity sh t + k = omega (arith, zero-mul (slotCapacity sh t)) in
-      ap₂ _+_ a (e ∙ ap₂ comesFrom c j) ∙ sym (ap (λ (b : Bool). readBy sh b 0 t k) (ne-eqb (sh .mode) 0 z))
+  read-each z o p q e = ap₂ _+_ o (e ∙ ap₂ comesFrom p q) ∙ sym (ap (λ (b : Bool). readBy sh b h t k) (ne-eqb (sh .mode) 0 z))

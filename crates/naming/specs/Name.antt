@@ -109,10 +109,6 @@ hasPlace sh subframe slot phch place =
     among subframe (subframesOf sh)
     && (among slot (sh .slots) && (among phch (phchsOf sh (slot - 1)) && among place (capacityOf sh (slot - 1) (phch - 1))))
 
--- the sub-frame of a place that is asked for without one, since a frame has no other
-abbrev pub onlySubframe : ℕ
-onlySubframe = 1
-
 -- the name's channel and bit exist
 pub record Inside (sh : Sheet) (n : Name) : Type 0 where
   pub channel-from : 0 < n .channel

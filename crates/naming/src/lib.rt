@@ -5,7 +5,7 @@ ghost use Rattle.sheet.specs.Counts.{mostTti, mostEncoded};
 ghost use Rattle.sheet.specs.Sizes.{framesIn, capacityAll};
 ghost use Rattle.orders.specs.Orders.{columnAt};
 ghost use Rattle.opening.specs.Opened.{Opens};
-ghost use Rattle.naming.specs.Name.{nameAt, nameOf, nameIn, onlySubframe, Exists};
+ghost use Rattle.naming.specs.Name.{nameAt, nameOf, nameIn, Exists};
 use counters::BitNumber;
 use counters::FrameNumber;
 use counters::PhchNumber;
@@ -17,8 +17,10 @@ use opening::channel_at;
 use pattern::closed::sent_at;
 use sheet::count;
 use sheet::counts::CAPACITIES;
+use sheet::counts::CHANNELS;
 use sheet::counts::SLOTS;
 use sheet::sizes::frames;
+use sheet::wide;
 
 pub mod existing;
 pub mod placing;
@@ -40,19 +42,23 @@ fn bit_number(tti: u16, frame: FrameNumber, m: u64) -> BitNumber
     BitNumber((m * f + p as u64 + 1) as u32)
 }
 
-// Steps 7 to 2: the name of what stands at index x of the multiplexed frame.
-fn name_at(opened: Opened, frame: FrameNumber, x: u64) -> PlaceName
-    requires { ⌜ Opens opened × (x < capacityAll (opened .fields)) ⌝ }
+// Steps 7 to 2: the name of what stands at index x of the multiplexed frame. The arrays of the opened sheet are lent beside it.
+fn name_at<'a>(
+    opened: Opened,
+    ttis: &'a [u16; CHANNELS],
+    sizes: &'a [u16; CHANNELS],
+    cuts: &'a [u16; CHANNELS + 1],
+    frame: FrameNumber,
+    x: u64,
+) -> PlaceName
+    requires { ⌜ Opens opened × (now ttis ≡ opened .fields .tti) × (now sizes ≡ opened .sizes) × (now cuts ≡ opened .cuts) × (x < capacityAll (opened .fields)) ⌝ }
     ensures { λ r. ⌜ nameIn r ≡ nameAt (opened .fields) (frame .0) x ⌝ }
 {
-    let i = channel_at(opened, x);
-    let ttis = opened.fields.tti;
-    let sizes = opened.sizes;
-    let cuts = opened.cuts;
+    let i = channel_at(opened, cuts, x);
     let tti = ttis[i];
-    let n = sizes[i] as u64;
-    let low = cuts[i] as u64;
-    let w = cuts[i + 1] as u64 - low;
+    let n = wide(sizes[i]);
+    let low = wide(cuts[i]);
+    let w = wide(cuts[i + 1]) - low;
     let d = difference(w, n);
     let e = start_of(n, d, tti, frame);
     let s = sent_at(n, w, e, d.less, d.size, x - low);
@@ -65,19 +71,23 @@ fn name_at(opened: Opened, frame: FrameNumber, x: u64) -> PlaceName
     }
 }
 
-// The name of a place that exists. The arrays of the fields are lent beside them.
+// The name of a place that exists. The arrays of the opened sheet and of its fields are lent beside them.
 pub fn name_lent<'a>(
     opened: Opened,
     phchs: &'a [u16; SLOTS],
     caps: &'a [u16; CAPACITIES],
+    ttis: &'a [u16; CHANNELS],
+    sizes: &'a [u16; CHANNELS],
+    cuts: &'a [u16; CHANNELS + 1],
     frame: FrameNumber,
+    subframe: u32,
     slot: u32,
     phch: PhchNumber,
     place: u32,
 ) -> PlaceName
-    requires { ⌜ Opens opened × (now phchs ≡ opened .fields .phchs) × (now caps ≡ opened .fields .caps) × Exists (opened .fields) onlySubframe slot (phch .0) place ⌝ }
-    ensures { λ r. ⌜ nameIn r ≡ nameOf (opened .fields) (frame .0) onlySubframe slot (phch .0) place ⌝ }
+    requires { ⌜ Opens opened × (now phchs ≡ opened .fields .phchs) × (now caps ≡ opened .fields .caps) × (now ttis ≡ opened .fields .tti) × (now sizes ≡ opened .sizes) × (now cuts ≡ opened .cuts) × Exists (opened .fields) subframe slot (phch .0) place ⌝ }
+    ensures { λ r. ⌜ nameIn r ≡ nameOf (opened .fields) (frame .0) subframe slot (phch .0) place ⌝ }
 {
-    let x = placing::index_at(opened, phchs, caps, slot, phch, place);
-    name_at(opened, frame, x)
+    let x = placing::index_at(opened, phchs, caps, subframe, slot, phch, place);
+    name_at(opened, ttis, sizes, cuts, frame, x)
 }

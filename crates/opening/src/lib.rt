@@ -17,8 +17,10 @@ use sheet::fields::read_fields;
 use sheet::none;
 use sheet::reading::beyond_uplink;
 use sheet::reading::read_number;
+use sheet::sizes::frame_places;
 use sheet::sizes::segment;
 use sheet::sizes::whole_load;
+use sheet::wide;
 
 // The fields; N of each channel, 0 past I; Z_0 to Z_I, 0 past them. N is at most E and Z at most D, so that 16 bits hold each.
 pub struct Opened {
@@ -85,7 +87,8 @@ pub fn open_sheet(bytes: &[u8]) -> OpenAnswer
     let beyond = beyond_uplink(fields);
     let number = read_number(bytes, fields, load, beyond);
     if number == 0 {
-        let opened = open_fields(fields, load.sum);
+        let d = frame_places(fields, load.sum);
+        let opened = open_fields(fields, d);
         return OpenAnswer { number, opened };
     }
     let opened = zeros();
@@ -120,14 +123,14 @@ pub fn change(opened: Opened, i: usize) -> Change
     difference(share(opened, i), sizes[i] as u64)
 }
 
-// Step 7: the channel, counted from 0, in whose part index x of the multiplexed frame lies.
-pub fn channel_at(opened: Opened, x: u64) -> usize
-    requires { ⌜ Opens opened × (x < capacityAll (opened .fields)) ⌝ }
+// Step 7: the channel, counted from 0, in whose part index x of the multiplexed frame lies. The Z are lent beside the opened sheet, which is copied
+// where they are not.
+pub fn channel_at(opened: Opened, cuts: &[u16; CHANNELS + 1], x: u64) -> usize
+    requires { ⌜ Opens opened × (now cuts ≡ opened .cuts) × (x < capacityAll (opened .fields)) ⌝ }
     ensures { λ r. ⌜ (r ≡ channelOf (opened .fields) x) × (r < opened .fields .channels) ⌝ }
 {
-    let z = opened.cuts;
     let mut i: usize = 0;
-    while z[i + 1] as u64 <= x {
+    while wide(cuts[i + 1]) <= x {
         i += 1;
     }
     i

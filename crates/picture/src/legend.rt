@@ -38,15 +38,20 @@ pub fn say_title(
     } else {
         say(out, a, b"UTRA TDD uplink radio frame")
     };
-    let c = pair(out, b, b", frame number ", frame.number());
-    let d = if fields.mode == 0 {
-        say(out, c, b", mode 0 (second interleaving over the frame)")
+    let c = if fields.lcr == 0 {
+        b
     } else {
-        say(out, c, b", mode 1 (second interleaving per slot)")
+        say(out, b, b" of 1.28 Mcps")
     };
-    let e = pair(out, d, b", D = ", sizes.capacity);
-    let f = say(out, e, b" places");
-    close_text(out, f)
+    let d = pair(out, c, b", frame number ", frame.number());
+    let e = if fields.mode == 0 {
+        say(out, d, b", mode 0 (second interleaving over the frame)")
+    } else {
+        say(out, d, b", mode 1 (second interleaving per slot)")
+    };
+    let f = pair(out, e, b", D = ", sizes.capacity);
+    let g = say(out, f, b" places");
+    close_text(out, g)
 }
 
 // A cell of the size of the legend's text goes between these two, and the text after them.

@@ -44,8 +44,7 @@ fn draw(out: &mut [u8; ROOM], sheet: &[u8], frame: FrameNumber, fields: Sheet) -
     let sizes = sizes(sheet);
     let scale = scale_of(sizes.capacity);
     let top = FIRST + LINE * wide(fields.channels);
-    let caps = fields.caps;
-    let a = open_picture(out, bottom(scale, caps, top) + 10);
+    let a = open_picture(out, bottom(scale, fields, top) + 10);
     let b = say_style(out, a, scale);
     let c = say_title(out, b, frame, fields, sizes);
     let d = say_marks(out, c);
@@ -56,7 +55,7 @@ fn draw(out: &mut [u8; ROOM], sheet: &[u8], frame: FrameNumber, fields: Sheet) -
 // The first place is in every frame: its name is refused as any other's of the sheet and the frame number is.
 fn picture(sheet: &[u8], frame: FrameNumber) {
     let mut out = [0u8; ROOM];
-    let first = name(sheet, frame, 1, PhchNumber(1), 1);
+    let first = name(sheet, frame, 1, 1, PhchNumber(1), 1);
     let k = if first.number == 0 {
         let read = sheet_read(sheet);
         draw(&mut out, sheet, frame, read.sheet)

@@ -16,7 +16,11 @@ fn say_meaning(out: &mut [u8; ROOM], at: usize, number: u32) -> usize {
         ),
         5 => say(out, at, b" (a capacity is 0)"),
         6 => say(out, at, b" (sum of all equalised sizes over 60,000)"),
-        7 => say(out, at, b" (sum of all capacities over 60,000)"),
+        7 => say(
+            out,
+            at,
+            b" (sum of all capacities, of each sub-frame, over 60,000)",
+        ),
         8 => say(out, at, b" (every E is 0)"),
         9 => say(out, at, b" (frame number not 0 to 255)"),
         13 => say(
@@ -24,6 +28,7 @@ fn say_meaning(out: &mut [u8; ROOM], at: usize, number: u32) -> usize {
             at,
             b" (an uplink slot with more than two codes, or a logarithm over 4)",
         ),
+        14 => say(out, at, b" (more than 7 slots at 1.28 Mcps)"),
         _ => at,
     }
 }

@@ -9,8 +9,8 @@ use Rattle.laws.proofs.TableLaws.{table-length, zeros-at, filled-at, upTo-below
 use Rattle.bits.specs.Bits.{bitsAt}
 use Rattle.bits.proofs.BitLaws.{bits-lt}
 use Rattle.sheet.specs.Counts.{mostChannels, mostSlots, mostCodes, mostCapacities, mostPaired, mostLogs}
-use Rattle.sheet.specs.Layout.{versionAt, versionWidth, modeAt, modeWidth, countAt, countWidth, slotsAt, slotsWidth, uplinkAt, uplinkWidth, topAt, topWidth, ttiWidth, encodedWidth, ratioWidth, logWidth, capacityWidth, channelAt, slotWidth}
-use Rattle.sheet.specs.Fields.{channelsIn, slotsIn, uplinkIn, ttiIn, encodedIn, ratioIn, slotFrom, phchsIn, codeLog, codeCapacity, codeIn, codesIn, sheetOf, ttiOf, encodedOf, ratioOf, phchsOf, capacityOf, logOf}
+use Rattle.sheet.specs.Layout.{versionAt, versionWidth, modeAt, modeWidth, countAt, countWidth, slotsAt, slotsWidth, lcrAt, lcrWidth, topAt, topWidth, ttiWidth, encodedWidth, ratioWidth, logWidth, capacityWidth, channelAt, slotWidth}
+use Rattle.sheet.specs.Fields.{channelsIn, slotsIn, uplinkIn, lcrIn, ttiIn, encodedIn, ratioIn, slotFrom, phchsIn, codeLog, codeCapacity, codeIn, codesIn, sheetOf, ttiOf, encodedOf, ratioOf, phchsOf, capacityOf, logOf}
 use Rattle.sheet.specs.Range.{Ranged}
 use Rattle.sheet.proofs.SlotLaws.{phchs-most, uplink-most, code-in, logs-none}
 
@@ -44,6 +44,10 @@ module _ (s : List ℕ) where
   pub uplink-in : sheetOf s .uplink ≡ uplinkIn s
   unfolding sheetOf
   uplink-in = refl
+
+  pub lcr-in : sheetOf s .lcr ≡ lcrIn s
+  unfolding sheetOf
+  lcr-in = refl
 
   pub tti-in : (i : ℕ) → i < channelsIn s → ttiOf (sheetOf s) i ≡ ttiIn s i
   unfolding sheetOf
@@ -99,6 +103,7 @@ module _ (s : List ℕ) where
       record {
         mode = omega (arith, mode-in, bits-lt s modeAt modeWidth);
         uplink = omega (arith, uplink-in, uplink-most s);
+        lcr = omega (arith, lcr-in, bits-lt s lcrAt lcrWidth);
         one = omega (arith, channels-in);
         few-channels = omega (arith, channels-in, channels-most s);
         few-slots = omega (arith, slots-in, slots-most s);

@@ -2,7 +2,7 @@
 use mathlib.Core.Path.{_≡_, refl, sym, ap, ap₂, _∙_}
 use mathlib.Core.Bool.{Bool, false, not, _&&_, _||_}
 use mathlib.Core.List.{List}
-use Prim.Native.Nat.{ℕ, _+_, _-_, _*_, _≤_, _<_}
+use Prim.Native.Nat.{ℕ, _-_, _*_, _≤_, _<_}
 use native.Mathlib.Omega.{arith}
 use native.Mathlib.Decide.{ℕ-discrete}
 use borrow.Author.Tests.{eq-eqb, ne-eqb, eqb-true, eqb-false, ltb-false, not-false}
@@ -16,9 +16,9 @@ use Rattle.counters.proofs.LineLaws.{Numbered, numbered-of, clear-of, clear-at,
 use Rattle.bits.specs.Bits.{bitsAt}
 use Rattle.sheet.specs.Counts.{mostCodes, mostPaired, mostBits, mostLog, longestSheet}
 use Rattle.sheet.specs.Layout.{slotWidth}
-use Rattle.sheet.specs.Fields.{sparesIn, sheetOf, blank, phchsOf, capacityOf, logOf}
+use Rattle.sheet.specs.Fields.{spareIn, sheetOf, blank, phchsOf, capacityOf, logOf}
 use Rattle.sheet.specs.Sizes.{equalisedAll, capacityAll, bitsNeeded, bytesNeeded}
-use Rattle.sheet.specs.Numbers.{emptyPlace, slotBeyond, someBeyond, beyondUplink, silent, misfit, loadLines, readLines, readNumber, readAnswer}
+use Rattle.sheet.specs.Numbers.{emptyPlace, slotBeyond, someBeyond, beyondUplink, beyondSubframe, silent, misfit, loadLines, readLines, readNumber, readAnswer}
 use Rattle.sheet.specs.Range.{Ranged}
 use Rattle.sheet.specs.declared.Sheet.{Sheet}
 use Rattle.sheet.specs.declared.SheetAnswer.{SheetAnswer}
@@ -29,7 +29,7 @@ abbrev pub wrongLength : List ℕ → Bool
 wrongLength s = not (eqb (length s) (bytesNeeded (sheetOf s)))
 
 abbrev pub spareSet : List ℕ → Bool
-spareSet s = not (eqb (sparesIn s) 0)
+spareSet s = not (eqb (spareIn s) 0)
 
 abbrev pub paddingSet : List ℕ → Bool
 paddingSet s = not (eqb (bitsAt s (bitsNeeded (sheetOf s)) (8 * length s - bitsNeeded (sheetOf s))) 0)
@@ -44,6 +44,7 @@ read-numbered s = numbered-of (readLines s) refl
 pub record Loads (sh : Sheet) : Type 0 where
   pub places : emptyPlace sh ≡ false
   pub uplink : beyondUplink sh ≡ false
+  pub subframe : beyondSubframe sh ≡ false
   pub sizes : ltb mostBits (equalisedAll sh) ≡ false
   pub capacity : ltb mostBits (capacityAll sh) ≡ false
   pub heard : silent sh ≡ false
@@ -51,7 +52,7 @@ pub record Loads (sh : Sheet) : Type 0 where
 pub loads-zero : (sh : Sheet) → firstOf (loadLines sh) ≡ 0 → Loads sh
 loads-zero sh h =
     let c = clear-of (numbered-of (loadLines sh) refl) h in
-    record { places = clear-at 5 c; uplink = clear-at 13 c; sizes = clear-at 6 c; capacity = clear-at 7 c; heard = clear-at 8 c }
+    record { places = clear-at 5 c; uplink = clear-at 13 c; subframe = clear-at 14 c; sizes = clear-at 6 c; capacity = clear-at 7 c; heard = clear-at 8 c }
 
 -- without number 13 each slot of an uplink sheet has at most two physical channels, with logarithms of at most 4
 pub paired-of : (sh : Sheet) → beyondUplink sh ≡ false → (sh .uplink ≡ 0 → ⊥) → (t : ℕ) → t < sh .slots
@@ -83,7 +84,7 @@ pub record Readable (s : List ℕ) : Type 0 where
   pub version : sheetOf s .version ≡ 1
   pub some : sheetOf s .slots ≡ 0 → ⊥
   pub exact : length s ≡ bytesNeeded (sheetOf s)
-  pub spare : sparesIn s ≡ 0
+  pub spare : spareIn s ≡ 0
   pub padding : bitsAt s (bitsNeeded (sheetOf s)) (8 * length s - bitsNeeded (sheetOf s)) ≡ 0
   pub loads : firstOf (loadLines (sheetOf s)) ≡ 0
 
@@ -100,7 +101,7 @@ readable s h =
       version = eqb-true (sh .version) 1 (not-false _ (b .0));
       some = eqb-false (sh .slots) 0 (c .0);
       exact = eqb-true (length s) (bytesNeeded sh) (not-false _ (or-left (wrongLength s) (spareSet s || paddingSet s) (d .0)));
-      spare = eqb-true (sparesIn s) 0 (not-false _ (or-left (spareSet s) (paddingSet s) m));
+      spare = eqb-true (spareIn s) 0 (not-false _ (or-left (spareSet s) (paddingSet s) m));
       padding = eqb-true _ 0 (not-false _ (or-right (spareSet s) (paddingSet s) m));
       loads = d .1;
     }
@@ -111,7 +112,7 @@ number-zero s r =
     let e3 : eqb (sheetOf s .slots) 0 ≡ false = ne-eqb (sheetOf s .slots) 0 (r .some) in
     let e4 : misfit s ≡ false =
     ap₂ _||_ (ap not (eq-eqb (length s) (bytesNeeded (sheetOf s)) (r .exact)))
-    (ap₂ _||_ (ap not (eq-eqb (sparesIn s) 0 (r .spare))) (ap not (eq-eqb _ 0 (r .padding))))
+    (ap₂ _||_ (ap not (eq-eqb (spareIn s) 0 (r .spare))) (ap not (eq-eqb _ 0 (r .padding))))
     in
     simp (r .long, e2, e3, e4) (r .loads)
 

@@ -10,9 +10,9 @@ use borrow.Author.Tests.{eq-eqb, ne-eqb}
 use lib.Pow.{pow-mono, pow-pos}
 use Rattle.laws.specs.Sums.{anyTo}
 use Rattle.laws.proofs.SumLaws.{sum-most}
-use Rattle.sheet.specs.Counts.{mostSlots, mostCodes, mostSubframes, mostTti, mostFrames, mostNeeded, longestForm}
+use Rattle.sheet.specs.Counts.{mostSlots, mostCodes, mostSubframes, mostTti, mostFrames, mostCapacity, mostNeeded, longestForm}
 use Rattle.sheet.specs.Layout.{slotWidth}
-use Rattle.sheet.specs.Fields.{phchsOf}
+use Rattle.sheet.specs.Fields.{phchsOf, capacityOf}
 use Rattle.sheet.specs.Sizes.{framesIn, segmentIn, slotCapacity, placesAll, subframesOf, capacityAll, bitsNeeded, bytesNeeded}
 use Rattle.sheet.specs.Numbers.{slotLoad, wholeLoad, loadOf}
 use Rattle.sheet.specs.Range.{Ranged}
@@ -62,9 +62,21 @@ pub some-subframe : (sh : Sheet) → 0 < subframesOf sh
 unfolding subframesOf
 some-subframe sh = omega arith
 
+pub subframes-are : (sh : Sheet) {k : ℕ} → k ≡ sh .lcr → 1 + k ≡ subframesOf sh
+unfolding subframesOf
+subframes-are sh e = ap (λ (x : ℕ). 1 + x) e
+
 pub few-subframes : (sh : Sheet) → Ranged sh → subframesOf sh ≤ mostSubframes
 unfolding subframesOf
-few-subframes sh r = omega arith
+few-subframes sh r = omega (arith, r .lcr)
+
+pub places-most : (sh : Sheet) → Ranged sh → placesAll sh ≤ mostSlots * (mostCodes * mostCapacity)
+places-most sh r =
+    let b =
+    sum-most (slotCapacity sh) (mostCodes * mostCapacity) (sh .slots)
+    (λ t l. omega (arith, sum-most (capacityOf sh t) mostCapacity (phchsOf sh t) (λ p k. r .caps t p l k), r .phch16 t l))
+    in
+    omega (arith, r .few-slots)
 
 pub one-each : (sh : Sheet) {d : ℕ} → subframesOf sh ≡ 1 → d ≡ capacityAll sh → d ≡ placesAll sh
 one-each sh e f = f ∙ ap (λ (k : ℕ). k * placesAll sh) e ∙ one-mul (placesAll sh)
@@ -72,16 +84,8 @@ one-each sh e f = f ∙ ap (λ (k : ℕ). k * placesAll sh) e ∙ one-mul (place
 pub half-each : (sh : Sheet) {d : ℕ} → subframesOf sh ≡ 2 → d ≡ capacityAll sh → d / 2 ≡ placesAll sh
 half-each sh {d} e f = let g : d ≡ 2 * placesAll sh = f ∙ ap (λ (k : ℕ). k * placesAll sh) e in omega (arith, g)
 
--- a frame has one sub-frame, so that D is the sum of all capacities
-pub one-subframe : (sh : Sheet) → subframesOf sh ≡ 1
-unfolding subframesOf
-one-subframe sh = refl
-
-pub capacity-one : (sh : Sheet) → placesAll sh ≡ capacityAll sh
-capacity-one sh = sym (ap (λ (k : ℕ). k * placesAll sh) (one-subframe sh) ∙ one-mul (placesAll sh))
-
-pub load-capacity : (sh : Sheet) {load : Load} → load ≡ loadOf sh → load .sum ≡ capacityAll sh
-load-capacity sh e = ap (λ (x : Load). x .sum) e ∙ capacity-one sh
+pub load-places : (sh : Sheet) {load : Load} → load ≡ loadOf sh → load .sum ≡ placesAll sh
+load-places sh e = ap (λ (x : Load). x .sum) e
 
 pub load-sum : (sh : Sheet) (t : ℕ) {n : ℕ} {load : Load} → n ≡ phchsOf sh t → load ≡ slotLoad (sh .caps) (mostCodes * t) n → load .sum ≡ slotCapacity sh t
 load-sum sh t e h = ap (λ (x : Load). x .sum) (h ∙ ap (slotLoad (sh .caps) (mostCodes * t)) e)

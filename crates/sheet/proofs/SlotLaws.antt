@@ -11,9 +11,9 @@ use lib.ListN.{getD, set, replicate}
 use Rattle.laws.specs.Tables.{upTo}
 use Rattle.laws.proofs.TableLaws.{filled-at, table-set, table-same, table-zeros, upTo-below, upTo-past, upTo-zero}
 use Rattle.bits.specs.Bits.{val, bitAt, bitsAt}
-use Rattle.bits.proofs.BitLaws.{bits-lt, val-append}
+use Rattle.bits.proofs.BitLaws.{bit-lt, bits-lt, val-shift, val-append, val-part}
 use Rattle.sheet.specs.Counts.{mostChannels, mostSlots, mostCodes, mostCapacities, mostPaired, mostLogs}
-use Rattle.sheet.specs.Layout.{versionAt, versionWidth, modeAt, modeWidth, slotsAt, slotsWidth, uplinkAt, uplinkWidth, ttiWidth, encodedWidth, ratioWidth, codesWidth, logWidth, capacityWidth, channelAt, slotWidth}
+use Rattle.sheet.specs.Layout.{versionAt, versionWidth, modeAt, modeWidth, countAt, countWidth, slotsAt, slotsWidth, uplinkAt, uplinkWidth, lcrAt, lcrWidth, topAt, topWidth, ttiWidth, encodedWidth, ratioWidth, codesWidth, logWidth, capacityWidth, channelAt, slotWidth}
 use Rattle.sheet.specs.Fields.{channelsIn, uplinkIn, ttiIn, encodedIn, ratioIn, slotFrom, phchsIn, codeLog, codeCapacity, codeIn, sheetOf}
 use Rattle.sheet.specs.Reading.{channelsTo, slotsTo, logsTo}
 use Rattle.sheet.specs.declared.fields.Channels.{Channels}
@@ -134,9 +134,35 @@ logs-none s start m z =
     ∙ upTo-zero m k (upTo-zero (phchsIn s start (k / mostPaired)) (k % mostPaired) refl))
     ∙ table-zeros mostLogs
 
+-- the fields of the head, divided out of its two bytes
+module _ (s : List ℕ) {first second : ℕ} (e : first ≡ bitsAt s 0 8) (f : second ≡ bitsAt s 8 8) where
+  pub version-of : first / 16 ≡ bitsAt s versionAt versionWidth
+  version-of = ap (λ (x : ℕ). x / 16) e ∙ val-shift (bitAt s) 0 4 4 (bit-lt s)
+
+  pub mode-of : first / 8 % 2 ≡ bitsAt s modeAt modeWidth
+  mode-of = ap (λ (x : ℕ). x / 8 % 2) e ∙ val-part (bitAt s) 0 4 1 3 (bit-lt s)
+
+  low-of : first % 8 ≡ bitsAt s countAt countWidth
+  low-of = omega (arith, e, val-append (bitAt s) 0 5 3, bits-lt s 5 3)
+
+  top-of : second / 2 % 2 ≡ bitsAt s topAt topWidth
+  top-of = ap (λ (x : ℕ). x / 2 % 2) f ∙ val-part (bitAt s) 8 6 1 1 (bit-lt s)
+
+  pub channels-of : 8 * (second / 2 % 2) + first % 8 + 1 ≡ channelsIn s
+  channels-of = ap₂ (λ (a b : ℕ). 8 * a + b + 1) top-of low-of
+
+  pub slots-of : second / 16 ≡ bitsAt s slotsAt slotsWidth
+  slots-of = ap (λ (x : ℕ). x / 16) f ∙ val-shift (bitAt s) 8 4 4 (bit-lt s)
+
+  pub uplink-of : second / 8 % 2 ≡ bitsAt s uplinkAt uplinkWidth
+  uplink-of = ap (λ (x : ℕ). x / 8 % 2) f ∙ val-part (bitAt s) 8 4 1 3 (bit-lt s)
+
+  pub lcr-of : second / 4 % 2 ≡ bitsAt s lcrAt lcrWidth
+  lcr-of = ap (λ (x : ℕ). x / 4 % 2) f ∙ val-part (bitAt s) 8 5 1 2 (bit-lt s)
+
 -- the parts that were read make the sheet
-pub joined : (s : List ℕ) {v m n t u : ℕ} (c : Channels) (r : Slots) {l : List ℕ} → v ≡ bitsAt s versionAt versionWidth → m ≡ bitsAt s modeAt modeWidth
-    → n ≡ channelsIn s → t ≡ bitsAt s slotsAt slotsWidth → u ≡ bitsAt s uplinkAt uplinkWidth → c ≡ channelsTo s n → r ≡ slotsTo s (channelAt n) t (mostCodes * t)
+pub joined : (s : List ℕ) {v m n t u k : ℕ} (c : Channels) (r : Slots) {l : List ℕ} → v ≡ bitsAt s versionAt versionWidth → m ≡ bitsAt s modeAt modeWidth
+    → n ≡ channelsIn s → t ≡ bitsAt s slotsAt slotsWidth → u ≡ bitsAt s uplinkAt uplinkWidth → k ≡ bitsAt s lcrAt lcrWidth → c ≡ channelsTo s n → r ≡ slotsTo s (channelAt n) t (mostCodes * t)
     → l ≡ logsTo s (channelAt n) (mostPaired * t)
     → _≡_ {A = Sheet}
     (record {
@@ -145,6 +171,7 @@ pub joined : (s : List ℕ) {v m n t u : ℕ} (c : Channels) (r : Slots) {l : Li
       channels = n;
       slots = t;
       uplink = u;
+      lcr = k;
       tti = c .tti;
       e = c .e;
       rm = c .rm;
@@ -154,4 +181,4 @@ pub joined : (s : List ℕ) {v m n t u : ℕ} (c : Channels) (r : Slots) {l : Li
     })
     (sheetOf s)
 unfolding sheetOf
-joined s c r ev em en et eu ec er el = rw (ec, er, el, ev, em, en, et, eu)
+joined s c r ev em en et eu ek ec er el = rw (ec, er, el, ev, em, en, et, eu, ek)

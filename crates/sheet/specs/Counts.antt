@@ -15,9 +15,12 @@ mostCodes = 16
 abbrev pub mostCapacities : ℕ
 mostCapacities = mostSlots * mostCodes
 
--- sub-frames of a frame
+-- sub-frames of a frame, and the slots of one at 1.28 Mcps
 abbrev pub mostSubframes : ℕ
 mostSubframes = 2
+
+abbrev pub mostLcrSlots : ℕ
+mostLcrSlots = 7
 
 -- physical channels of an uplink slot
 abbrev pub mostPaired : ℕ

@@ -22,9 +22,13 @@ slotsIn s = headIn s 3
 abbrev pub uplinkIn : List ℕ → ℕ
 uplinkIn s = headIn s 4
 
--- the bits of the head that are spare, added up: 0 where none is set
-abbrev pub sparesIn : List ℕ → ℕ
-sparesIn s = headIn s 5 + headIn s 7
+-- the bit that marks the 1.28 Mcps option (the low chip rate)
+abbrev pub lcrIn : List ℕ → ℕ
+lcrIn s = headIn s 5
+
+-- the bit of the head that is spare
+abbrev pub spareIn : List ℕ → ℕ
+spareIn s = headIn s 7
 
 -- TTI, E and RM of channel i of the bytes
 abbrev pub ttiIn : List ℕ → ℕ → ℕ
@@ -69,6 +73,7 @@ sheetOf s =
       channels = channelsIn s;
       slots = slotsIn s;
       uplink = uplinkIn s;
+      lcr = lcrIn s;
       tti = table (λ i. upTo (channelsIn s) i (ttiIn s i)) 0 mostChannels;
       e = table (λ i. upTo (channelsIn s) i (encodedIn s i)) 0 mostChannels;
       rm = table (λ i. upTo (channelsIn s) i (ratioIn s i)) 0 mostChannels;
@@ -86,6 +91,7 @@ blank =
       channels = 0;
       slots = 0;
       uplink = 0;
+      lcr = 0;
       tti = replicate mostChannels 0;
       e = replicate mostChannels 0;
       rm = replicate mostChannels 0;

@@ -3,7 +3,7 @@ use mathlib.Core.List.{List, [], _∷_}
 use Prim.Native.Nat.{ℕ, zero, suc, _+_, _*_}
 use lib.ListN.{getD}
 
--- the head: version, mode, I-1 without its top bit, T, uplink, a spare bit, the top bit of I-1, a spare bit
+-- the head: version, mode, I-1 without its top bit, T, uplink, 1.28 Mcps, the top bit of I-1, a spare bit
 abbrev pub headWidths : List ℕ
 headWidths = 4 ∷ 1 ∷ 3 ∷ 4 ∷ 1 ∷ 1 ∷ 1 ∷ 1 ∷ []
 
@@ -71,11 +71,11 @@ uplinkAt = widthTo headWidths 4
 abbrev pub uplinkWidth : ℕ
 uplinkWidth = getD headWidths 4 0
 
-abbrev pub spareAt : ℕ
-spareAt = widthTo headWidths 5
+abbrev pub lcrAt : ℕ
+lcrAt = widthTo headWidths 5
 
-abbrev pub spareWidth : ℕ
-spareWidth = getD headWidths 5 0
+abbrev pub lcrWidth : ℕ
+lcrWidth = getD headWidths 5 0
 
 abbrev pub topAt : ℕ
 topAt = widthTo headWidths 6
@@ -83,8 +83,8 @@ topAt = widthTo headWidths 6
 abbrev pub topWidth : ℕ
 topWidth = getD headWidths 6 0
 
-abbrev pub lastAt : ℕ
-lastAt = widthTo headWidths 7
+abbrev pub spareAt : ℕ
+spareAt = widthTo headWidths 7
 
-abbrev pub lastWidth : ℕ
-lastWidth = getD headWidths 7 0
+abbrev pub spareWidth : ℕ
+spareWidth = getD headWidths 7 0

@@ -1,4 +1,4 @@
--- The lines of the table of numbers that a sheet alone has, 1 to 5, 13, and 6 to 8, and what reading a sheet answers.
+-- The lines of the table of numbers that a sheet alone has, 1 to 5, 13, 14, and 6 to 8, and what reading a sheet answers.
 use mathlib.Core.Bool.{Bool, not, _&&_, _||_}
 use mathlib.Core.List.{List, [], _∷_}
 use Prim.Native.Nat.{ℕ, _+_, _-_, _*_}
@@ -7,8 +7,8 @@ use lib.ListN.{length, getD}
 use Rattle.laws.specs.Sums.{sumTo, anyTo}
 use Rattle.counters.specs.Lines.{Line, line, firstOf, given}
 use Rattle.bits.specs.Bits.{bitsAt}
-use Rattle.sheet.specs.Counts.{mostCodes, mostPaired, mostBits, mostLog}
-use Rattle.sheet.specs.Fields.{sparesIn, sheetOf, blank, encodedOf, phchsOf, capacityOf, logIn}
+use Rattle.sheet.specs.Counts.{mostCodes, mostPaired, mostLcrSlots, mostBits, mostLog}
+use Rattle.sheet.specs.Fields.{spareIn, sheetOf, blank, encodedOf, phchsOf, capacityOf, logIn}
 use Rattle.sheet.specs.Sizes.{equalisedAll, placesAll, capacityAll, bitsNeeded, bytesNeeded}
 use Rattle.sheet.specs.declared.sizes.Load.{Load}
 use Rattle.sheet.specs.declared.Sheet.{Sheet}
@@ -18,7 +18,7 @@ use Rattle.sheet.specs.declared.SheetAnswer.{SheetAnswer}
 abbrev pub misfit : List ℕ → Bool
 misfit s =
     not (eqb (length s) (bytesNeeded (sheetOf s)))
-    || (not (eqb (sparesIn s) 0) || not (eqb (bitsAt s (bitsNeeded (sheetOf s)) (8 * length s - bitsNeeded (sheetOf s))) 0))
+    || (not (eqb (spareIn s) 0) || not (eqb (bitsAt s (bitsNeeded (sheetOf s)) (8 * length s - bitsNeeded (sheetOf s))) 0))
 
 -- 5: a capacity is 0
 abbrev pub emptyPlace : Sheet → Bool
@@ -33,6 +33,10 @@ someBeyond phchs logs n = anyTo (λ t. slotBeyond logs t (getD phchs t 0)) n
 
 abbrev pub beyondUplink : Sheet → Bool
 beyondUplink sh = not (eqb (sh .uplink) 0) && someBeyond (sh .phchs) (sh .logs) (sh .slots)
+
+-- 14: at 1.28 Mcps a sub-frame has more than seven slots
+abbrev pub beyondSubframe : Sheet → Bool
+beyondSubframe sh = not (eqb (sh .lcr) 0) && ltb mostLcrSlots (sh .slots)
 
 -- what n capacities from `from` on come to, and those of n slots
 abbrev pub slotLoad : List ℕ → ℕ → ℕ → Load
@@ -59,6 +63,7 @@ abbrev pub loadLines : Sheet → List Line
 loadLines sh =
     line (emptyPlace sh) 5 ∷
     line (beyondUplink sh) 13 ∷
+    line (beyondSubframe sh) 14 ∷
     line (ltb mostBits (equalisedAll sh)) 6 ∷
     line (ltb mostBits (capacityAll sh)) 7 ∷
     line (silent sh) 8 ∷

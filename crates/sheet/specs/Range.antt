@@ -12,6 +12,7 @@ use Rattle.sheet.specs.declared.Sheet.{Sheet}
 pub record Ranged (sh : Sheet) : Type 0 where
   pub mode : sh .mode ≤ 1
   pub uplink : sh .uplink ≤ 1
+  pub lcr : sh .lcr ≤ 1
   pub one : 1 ≤ sh .channels
   pub few-channels : sh .channels ≤ mostChannels
   pub few-slots : sh .slots ≤ mostSlots

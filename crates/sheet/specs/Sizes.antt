@@ -39,9 +39,9 @@ slotCapacity sh t = sumTo (capacityOf sh t) (phchsOf sh t)
 abbrev pub placesAll : Sheet → ℕ
 placesAll sh = sumTo (slotCapacity sh) (sh .slots)
 
--- the sub-frames of a frame, each with all of the sheet's slots; and D, the places of the frame
+-- the sub-frames of a frame, each with all of the sheet's slots: two at 1.28 Mcps, and else one; and D, the places of the frame
 unfoldable pub subframesOf : Sheet → ℕ
-subframesOf sh = 1
+subframesOf sh = 1 + sh .lcr
 
 abbrev pub capacityAll : Sheet → ℕ
 capacityAll sh = subframesOf sh * placesAll sh

@@ -14,6 +14,9 @@ pub const CODES: usize = 16;
 
 pub const CAPACITIES: usize = SLOTS * CODES;
 
+// Slots of a sub-frame at 1.28 Mcps.
+pub const LCR_SLOTS: u16 = 7;
+
 // Physical channels of an uplink slot.
 pub const PAIRED: usize = 2;
 

@@ -17,24 +17,19 @@ use crate::counts::SLOTS;
 use crate::layout::CAPACITY_WIDTH;
 use crate::layout::CHANNEL_WIDTH;
 use crate::layout::CODES_WIDTH;
-use crate::layout::COUNT_AT;
-use crate::layout::COUNT_WIDTH;
+use crate::layout::COUNT_END;
 use crate::layout::ENCODED_WIDTH;
 use crate::layout::HEAD_WIDTH;
+use crate::layout::LCR_UNIT;
 use crate::layout::LOG_WIDTH;
-use crate::layout::MODE_AT;
-use crate::layout::MODE_WIDTH;
-use crate::layout::SLOTS_AT;
-use crate::layout::SLOTS_WIDTH;
-use crate::layout::TOP_AT;
+use crate::layout::MODE_UNIT;
+use crate::layout::SLOTS_UNIT;
 use crate::layout::TOP_COUNTS;
-use crate::layout::TOP_WIDTH;
+use crate::layout::TOP_UNIT;
 use crate::layout::TTI_COUNTS;
 use crate::layout::TTI_WIDTH;
-use crate::layout::UPLINK_AT;
-use crate::layout::UPLINK_WIDTH;
-use crate::layout::VERSION_AT;
-use crate::layout::VERSION_WIDTH;
+use crate::layout::UPLINK_UNIT;
+use crate::layout::VERSION_UNIT;
 use crate::sizes::slot_width;
 
 pub struct Channels {
@@ -151,17 +146,15 @@ fn read_logs<'a>(
     logs
 }
 
-// All fields; 0 past I, T and P.
+// All fields; 0 past I, T and P. Those of the head are divided out of its two bytes.
 pub fn read_fields(s: &[u8]) -> Sheet
     ensures { λ r. ⌜ r ≡ sheetOf (now (s .entry)) ⌝ }
 {
-    let version = bits::read_field(s, VERSION_AT, VERSION_WIDTH) as u16;
-    let mode = bits::read_field(s, MODE_AT, MODE_WIDTH) as u16;
-    let low = bits::read_field(s, COUNT_AT, COUNT_WIDTH);
-    let t = bits::read_field(s, SLOTS_AT, SLOTS_WIDTH) as usize;
-    let up = bits::read_field(s, UPLINK_AT, UPLINK_WIDTH) as usize;
-    let top = bits::read_field(s, TOP_AT, TOP_WIDTH);
-    let n = (TOP_COUNTS * top + low + 1) as usize;
+    let first = bits::read_byte(s, 0);
+    let second = bits::read_byte(s, 1);
+    let n = (TOP_COUNTS * (second / TOP_UNIT % 2) + first % COUNT_END + 1) as usize;
+    let t = (second / SLOTS_UNIT) as usize;
+    let up = (second / UPLINK_UNIT % 2) as usize;
     let c = read_channels(s, n);
     let start = HEAD_WIDTH + CHANNEL_WIDTH * n;
     let r = read_slots(s, up, start, t);
@@ -172,11 +165,12 @@ pub fn read_fields(s: &[u8]) -> Sheet
     let phchs = r.phchs;
     let caps = r.caps;
     Sheet {
-        version,
-        mode,
+        version: (first / VERSION_UNIT) as u16,
+        mode: (first / MODE_UNIT % 2) as u16,
         channels: n as u16,
         slots: t as u16,
         uplink: up as u16,
+        lcr: (second / LCR_UNIT % 2) as u16,
         tti,
         e,
         rm,

@@ -4,25 +4,25 @@ ghost use Prim.Native.Nat.{_≤_, _<_};
 ghost use Rattle.counters.specs.Lines.{firstOf};
 ghost use Rattle.sheet.specs.Counts.{mostSlots};
 ghost use Rattle.sheet.specs.Fields.{sheetOf};
-ghost use Rattle.sheet.specs.Numbers.{misfit, slotBeyond, someBeyond, beyondUplink, silent, loadOf, loadLines, readNumber, readAnswer};
+ghost use Rattle.sheet.specs.Numbers.{misfit, slotBeyond, someBeyond, beyondUplink, beyondSubframe, silent, loadOf, loadLines, readNumber, readAnswer};
 ghost use Rattle.sheet.specs.Range.{Ranged};
 use crate::Sheet;
 use crate::SheetAnswer;
 use crate::count;
+use crate::counts::LCR_SLOTS;
 use crate::counts::LOGS;
 use crate::counts::MOST_BITS;
 use crate::counts::MOST_LOG;
 use crate::counts::PAIRED;
 use crate::counts::SLOTS;
 use crate::fields::read_fields;
-use crate::layout::LAST_AT;
-use crate::layout::LAST_WIDTH;
 use crate::layout::SPARE_AT;
 use crate::layout::SPARE_WIDTH;
 use crate::none;
 use crate::sizes::Load;
 use crate::sizes::all_equalised;
 use crate::sizes::bits_needed;
+use crate::sizes::frame_places;
 use crate::sizes::whole_load;
 
 // Whether every E is 0.
@@ -88,6 +88,16 @@ pub fn beyond_uplink(fields: Sheet) -> bool
     some_beyond(&phchs, &logs, count(fields.slots))
 }
 
+// Whether a sub-frame at 1.28 Mcps has more slots than seven.
+fn beyond_subframe(fields: Sheet) -> bool
+    ensures { λ r. ⌜ r ≡ beyondSubframe fields ⌝ }
+{
+    if fields.lcr == 0 {
+        return false;
+    }
+    LCR_SLOTS < fields.slots
+}
+
 // The number of the lines from 5 on, `load` being what the capacities come to, and `beyond` whether 13 has something to refuse.
 fn loaded_number(fields: Sheet, load: Load, beyond: bool) -> u32
     requires { ⌜ Ranged fields × (load ≡ loadOf fields) × (beyond ≡ beyondUplink fields) ⌝ }
@@ -99,10 +109,13 @@ fn loaded_number(fields: Sheet, load: Load, beyond: bool) -> u32
     if beyond {
         return 13;
     }
+    if beyond_subframe(fields) {
+        return 14;
+    }
     if MOST_BITS < all_equalised(fields) {
         return 6;
     }
-    if MOST_BITS < load.sum {
+    if MOST_BITS < frame_places(fields, load.sum) {
         return 7;
     }
     if all_silent(fields) {
@@ -121,7 +134,7 @@ pub fn load_number(fields: Sheet) -> u32
     loaded_number(fields, load, beyond)
 }
 
-// Whether the length is not what the fields need, or a spare or padding bit is set.
+// Whether the length is not what the fields need, or the spare bit or a padding bit is set.
 fn fails_fit(s: &[u8], fields: Sheet) -> bool
     requires { ⌜ (fields ≡ sheetOf (now s)) × Ranged fields ⌝ }
     ensures { λ r. ⌜ r ≡ misfit (now (s .entry)) ⌝ }
@@ -130,9 +143,7 @@ fn fails_fit(s: &[u8], fields: Sheet) -> bool
     if s.len() != (need + 7) / 8 {
         return true;
     }
-    let spare = bits::read_field(s, SPARE_AT, SPARE_WIDTH);
-    let last = bits::read_field(s, LAST_AT, LAST_WIDTH);
-    if spare + last != 0 {
+    if bits::read_field(s, SPARE_AT, SPARE_WIDTH) != 0 {
         return true;
     }
     if bits::read_field(s, need, 8 * s.len() - need) != 0 {

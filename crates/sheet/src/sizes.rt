@@ -137,7 +137,15 @@ pub fn subframes(fields: Sheet) -> usize
     requires { ⌜ Ranged fields ⌝ }
     ensures { λ r. ⌜ (r ≡ subframesOf fields) × (0 < r) × (r ≤ mostSubframes) ⌝ }
 {
-    1
+    1 + count(fields.lcr)
+}
+
+// D, w being the places of a sub-frame.
+pub fn frame_places(fields: Sheet, w: u64) -> u64
+    requires { ⌜ Ranged fields × (w ≡ placesAll fields) ⌝ }
+    ensures { λ r. ⌜ r ≡ capacityAll fields ⌝ }
+{
+    subframes(fields) as u64 * w
 }
 
 // The places of a sub-frame, d being those of the frame.

@@ -1,6 +1,6 @@
--- Laws of the row of 548 numbers: laid in parts, taken out in parts, and there and back.
+-- Laws of the row of 549 numbers: laid in parts, taken out in parts, and there and back.
 use mathlib.Core.Path.{_≡_, refl, sym, ap, ap₂, _∙_}
-use mathlib.Core.List.{List, [], _∷_, _++_, append-assoc}
+use mathlib.Core.List.{List, [], _++_, append-assoc}
 use Prim.Native.Nat.{ℕ, _+_, _*_, _/_, _%_, _≤_, _<_}
 use native.Mathlib.Nat.{add-zero}
 use native.Mathlib.Omega.{arith}
@@ -57,6 +57,7 @@ pub sheet-taken : (l : List ℕ) {t e r p c g : List ℕ} → t ≡ take mostCha
       channels = getD l 2 0;
       slots = getD l 3 0;
       uplink = getD l 4 0;
+      lcr = getD l 5 0;
       tti = t;
       e = e;
       rm = r;

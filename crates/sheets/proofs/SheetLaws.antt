@@ -1,4 +1,4 @@
--- Laws of reading a sheet into the row of 548 numbers, and of writing it.
+-- Laws of reading a sheet into the row of 549 numbers, and of writing it.
 use mathlib.Core.Path.{_≡_, refl, sym, ap, _∙_}
 use mathlib.Core.Bool.{not}
 use mathlib.Core.List.{List, [], _∷_}

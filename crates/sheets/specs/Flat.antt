@@ -1,5 +1,5 @@
--- The fields of a sheet as 548 numbers in a row, as C has them: version, mode, I, T, uplink; TTI, E and RM of sixteen channels each; P of fifteen
--- slots; of fifteen times sixteen physical channels U, and then the logarithms of their spreading factors, which the fields have for two a slot.
+-- The fields of a sheet as 549 numbers in a row, as C has them: version, mode, I, T, uplink, 1.28 Mcps; TTI, E and RM of sixteen channels each; P of
+-- fifteen slots; of fifteen times sixteen physical channels U, and then the logarithms of their spreading factors, which the fields have for two a slot.
 use mathlib.Core.Path.{_≡_}
 use mathlib.Core.List.{List, [], _∷_, _++_}
 use Prim.Native.Nat.{ℕ, _+_, _*_, _/_, _%_}
@@ -12,7 +12,7 @@ use Rattle.sheet.specs.declared.Sheet.{Sheet}
 
 -- where each row of numbers begins, and how many there are in all
 abbrev pub ttiFrom : ℕ
-ttiFrom = 5
+ttiFrom = 6
 
 abbrev pub encodedFrom : ℕ
 encodedFrom = ttiFrom + mostChannels
@@ -34,7 +34,7 @@ flatCount = ttiFrom + 3 * mostChannels + mostSlots + 2 * mostCapacities
 
 -- what stands before the rows
 abbrev pub flatHead : Sheet → List ℕ
-flatHead sh = sh .version ∷ sh .mode ∷ sh .channels ∷ sh .slots ∷ sh .uplink ∷ []
+flatHead sh = sh .version ∷ sh .mode ∷ sh .channels ∷ sh .slots ∷ sh .uplink ∷ sh .lcr ∷ []
 
 -- the logarithm of physical channel m mod 16 of slot m div 16, 0 past the second; and such a row's logarithms, two a slot
 abbrev pub flatLogs : List ℕ → List ℕ
@@ -54,6 +54,7 @@ sheetFrom l =
       channels = getD l 2 0;
       slots = getD l 3 0;
       uplink = getD l 4 0;
+      lcr = getD l 5 0;
       tti = take mostChannels (drop ttiFrom l);
       e = take mostChannels (drop encodedFrom l);
       rm = take mostChannels (drop ratioFrom l);

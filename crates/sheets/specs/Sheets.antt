@@ -15,11 +15,11 @@ use Rattle.looking.specs.Outcome.{Outcome, wrote}
 use Rattle.looking.specs.Looking.{notLong}
 use Rattle.sheets.specs.Flat.{flatCount, flatOf, sheetFrom}
 
--- 11: a row of fields has not 548 numbers
+-- 11: a row of fields has not 549 numbers
 abbrev pub notFlat : ℕ → Bool
 notFlat n = notLong n flatCount
 
--- umv_sheet_read: 1 to 5, 13, 6 to 8, then 11 where the fields' buffer has not 548 numbers
+-- umv_sheet_read: 1 to 5, 13, 14, 6 to 8, then 11 where the fields' buffer has not 549 numbers
 abbrev pub readIntoLines : List ℕ → ℕ → List Line
 readIntoLines s n = readLines s ++ line (notFlat n) 11 ∷ []
 
@@ -30,7 +30,7 @@ readInto s old = wrote (firstOf (readIntoLines s (length old))) flatCount (flatO
 abbrev pub writeInto : Sheet → List ℕ → Outcome ℕ
 writeInto sh old = wrote (writeNumber sh (length old)) (bytesNeeded sh) (bytesOf sh) old
 
--- umv_sheet_length and umv_sheet_write, from a row of numbers: where there are not 548, there are no fields to ask anything else of
+-- umv_sheet_length and umv_sheet_write, from a row of numbers: where there are not 549, there are no fields to ask anything else of
 abbrev pub lengthFromLines : List ℕ → List Line
 lengthFromLines l = line (notFlat (length l)) 11 ∷ fieldLines (sheetFrom l)
 

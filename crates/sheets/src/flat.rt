@@ -1,4 +1,4 @@
-// The fields of a sheet as 548 numbers in a row, as C has them.
+// The fields of a sheet as 549 numbers in a row, as C has them.
 ghost use mathlib.Core.Path.{_≡_};
 ghost use Prim.Native.Nat.{_+_, _≤_, _<_};
 ghost use lib.ListN.{length, take, drop};
@@ -13,7 +13,7 @@ use sheet::counts::LOGS;
 use sheet::counts::PAIRED;
 use sheet::counts::SLOTS;
 
-pub const TTI_FROM: usize = 5;
+pub const TTI_FROM: usize = 6;
 
 pub const ENCODED_FROM: usize = TTI_FROM + CHANNELS;
 
@@ -111,7 +111,7 @@ fn take_logs(flat: &[u16]) -> [u16; LOGS]
     logs
 }
 
-// Lays all fields into a row of 548.
+// Lays all fields into a row of 549.
 pub fn lay_sheet(fields: Sheet, out: &mut [u16])
     requires { ⌜ length (now out) ≡ flatCount ⌝ }
     ensures { λ _. ⌜ now (out .exit) ≡ flatOf fields ⌝ }
@@ -122,6 +122,7 @@ pub fn lay_sheet(fields: Sheet, out: &mut [u16])
         fields.channels,
         fields.slots,
         fields.uplink,
+        fields.lcr,
     ];
     lay(out, 0, &head);
     let tti = fields.tti;
@@ -138,7 +139,7 @@ pub fn lay_sheet(fields: Sheet, out: &mut [u16])
     lay_caps(out, LOGS_FROM, spread_logs(logs));
 }
 
-// Takes all fields out of a row of 548.
+// Takes all fields out of a row of 549.
 pub fn take_sheet(flat: &[u16]) -> Sheet
     requires { ⌜ length (now flat) ≡ flatCount ⌝ }
     ensures { λ r. ⌜ r ≡ sheetFrom (now (flat .entry)) ⌝ }
@@ -160,6 +161,7 @@ pub fn take_sheet(flat: &[u16]) -> Sheet
         channels: flat[2],
         slots: flat[3],
         uplink: flat[4],
+        lcr: flat[5],
         tti,
         e,
         rm,

@@ -1,4 +1,4 @@
-// A tour of the library: of three sheets the listing, the frame of some contents, the name of each place of that frame, and what comes home
+// A tour of the library: of four sheets the listing, the frame of some contents, the name of each place of that frame, and what comes home
 // of the contents where the frame is heard with a few places silent.
 ghost use mathlib.Core.Path.{_≡_};
 ghost use lib.ListN.{length};
@@ -38,7 +38,7 @@ fn tour(title: &[u8], sheet: &[u8], number: FrameNumber, contents: &[u8], frame:
     say_number(number.number());
     say(b", the frame:\n");
     let caps = fields.caps;
-    say_frame(sheet, number, caps, frame);
+    say_frame(sheet, number, fields.lcr as u32 + 1, caps, frame);
 }
 
 fn bit(digit: u8) -> u8 {
@@ -120,6 +120,27 @@ fn two_codes() {
     come_home(sheet, 0, last, &contents, silence, &mut frame, &mut joined);
 }
 
+// 1.28 Mcps and mode 1; channels of 10 and 20 ms with E 10 and 12, both repeated; in each sub-frame a slot of capacities 3 and 2, one of 4. The ten
+// places of slot 1 in both sub-frames are interleaved, and then halved.
+fn two_subframes() {
+    let sheet: &[u8] = b"\x19\x24\x00\x0a\x00\x40\x0c\x00\x10\x03\x00\x20\x00\x40";
+    let last = FrameNumber(1);
+    let mut contents = [0u8; 22];
+    let mut frame = [0u8; 18];
+    contents_of(b"1011001110011010011001", &mut contents);
+    tour(
+        b"\ntwo sub-frames of 1.28 Mcps, each slot interleaved over both:",
+        sheet,
+        last,
+        &contents,
+        &mut frame,
+    );
+    say(b"frames 0 and 1 sent; in frame 1 sub-frame 2 slot 1 PhCH 2 is silent; what came home:\n");
+    let silence = Silence { from: 12, to: 14 };
+    let mut joined = [0.0f32; 22];
+    come_home(sheet, 0, last, &contents, silence, &mut frame, &mut joined);
+}
+
 fn main() {
     say(
         b"Places 1, 2, .. stand from left to right. c.b is bit b of channel c, copy 0; c.b'k its copy k; * marks a filler.\n",
@@ -130,4 +151,5 @@ fn main() {
     example();
     three_channels();
     two_codes();
+    two_subframes();
 }

@@ -62,8 +62,19 @@ fn say_group(bits: &[u8], from: usize, n: usize) -> usize
     from
 }
 
-// Where the capacity at an index of the sheet's capacities stands.
-fn say_where(m: usize) {
+// A sub-frame, counted from 1, of those that a frame has.
+struct Part {
+    subframe: u32,
+    of: u32,
+}
+
+// Where the capacity at an index of the sheet's capacities stands; of the only sub-frame nothing is said.
+fn say_where(part: Part, m: usize) {
+    if part.of > 1 {
+        say(b"sub-frame ");
+        say_number(part.subframe as u64);
+        say(b" ");
+    }
     say(b"slot ");
     say_number((m / CODES + 1) as u64);
     say(b" PhCH ");
@@ -89,15 +100,15 @@ fn say_name(sheet: &[u8], name: PlaceName) {
     }
 }
 
-// The names of the n places of the physical channel at an index of the sheet's capacities.
-fn say_places(sheet: &[u8], number: FrameNumber, m: usize, n: u16)
+// The names of the n places that the physical channel at an index of the sheet's capacities has in a sub-frame.
+fn say_places(sheet: &[u8], number: FrameNumber, subframe: u32, m: usize, n: u16)
     requires { ⌜ m < mostCapacities ⌝ }
 {
     let slot = (m / CODES + 1) as u32;
     let phch = PhchNumber((m % CODES + 1) as u32);
     let mut place: u32 = 1;
     while place <= n as u32 {
-        let answer = name(sheet, number, slot, phch, place);
+        let answer = name(sheet, number, subframe, slot, phch, place);
         if answer.number == 0 {
             let name = answer.name;
             say_name(sheet, name);
@@ -118,6 +129,7 @@ fn say_row(
     row: Row,
     sheet: &[u8],
     number: FrameNumber,
+    part: Part,
     bits: &[u8],
     from: usize,
     m: usize,
@@ -129,43 +141,80 @@ fn say_row(
     match row {
         Row::Contents => say_group(bits, from, count(n)),
         Row::Bits => {
-            say_where(m);
+            say_where(part, m);
             let to = say_group(bits, from, count(n));
             say(b"\n");
             to
         }
         Row::Names => {
-            say_where(m);
-            say_places(sheet, number, m, n);
+            say_where(part, m);
+            say_places(sheet, number, part.subframe, m, n);
             say(b"\n");
             from
         }
     }
 }
 
-// A row for each count above 0: what is past I, T or P has none.
-fn say_rows(row: Row, sheet: &[u8], number: FrameNumber, counts: &[u16], bits: &[u8])
-    requires { ⌜ length (now counts) ≤ mostCapacities ⌝ }
+// A row for each count above 0: what is past I, T or P has none. The bits begin at index `first`; answers where those after them do.
+fn say_rows(
+    row: Row,
+    sheet: &[u8],
+    number: FrameNumber,
+    part: Part,
+    counts: &[u16],
+    bits: &[u8],
+    first: usize,
+) -> usize
+    requires { ⌜ (length (now counts) ≤ mostCapacities) × (first ≤ length (now bits)) ⌝ }
+    ensures { λ r. ⌜ r ≤ length (now (bits .entry)) ⌝ }
 {
-    let mut from: usize = 0;
+    let mut from = first;
     let mut m: usize = 0;
     while m < counts.len() {
         let n = counts[m];
         if n > 0 {
-            from = say_row(row, sheet, number, bits, from, m, n);
+            from = say_row(row, sheet, number, part, bits, from, m, n);
         }
         m += 1;
     }
+    from
 }
 
 pub fn say_contents(sheet: &[u8], number: FrameNumber, e: [u16; CHANNELS], contents: &[u8]) {
-    say_rows(Row::Contents, sheet, number, &e, contents);
+    let part = Part { subframe: 1, of: 1 };
+    say_rows(Row::Contents, sheet, number, part, &e, contents, 0);
 }
 
-pub fn say_frame(sheet: &[u8], number: FrameNumber, caps: [u16; CAPACITIES], frame: &[u8]) {
-    say_rows(Row::Bits, sheet, number, &caps, frame);
+// The rows of each sub-frame.
+fn say_subframes(row: Row, sheet: &[u8], number: FrameNumber, of: u32, counts: &[u16], frame: &[u8])
+    requires { ⌜ length (now counts) ≤ mostCapacities ⌝ }
+{
+    let mut from: usize = 0;
+    let mut h: u32 = 0;
+    while h < of {
+        h += 1;
+        from = say_rows(
+            row,
+            sheet,
+            number,
+            Part { subframe: h, of },
+            counts,
+            frame,
+            from,
+        );
+    }
+}
+
+pub fn say_frame(
+    sheet: &[u8],
+    number: FrameNumber,
+    of: u32,
+    caps: [u16; CAPACITIES],
+    frame: &[u8],
+) {
+    say_subframes(Row::Bits, sheet, number, of, &caps, frame);
     say(b"the name of each place:\n");
-    say_rows(Row::Names, sheet, number, &caps, frame);
+    say_subframes(Row::Names, sheet, number, of, &caps, frame);
 }
 
 pub fn say_refused(number: u32) {

@@ -57,7 +57,7 @@ pub umv-part : Promised UmvPart.ended UmvPart.Reads.Asked UmvPart.Reads.Learnt
 umv-part = record { takes-all = λ κs inputs. tt; one-answer = λ κs inputs x y v w. with-lasts (λ (z : PartAnswer). z .number) (λ (z : PartAnswer). (tt, (tt, (tt, (z .start, (z .length, tt)))))) }
 
 pub umv-name : Promised UmvName.ended UmvName.Reads.Asked UmvName.Reads.Learnt
-umv-name = record { takes-all = λ κs inputs. tt; one-answer = λ κs inputs x y v w. with-lasts (λ (z : Naming). z .number) (λ (z : Naming). (tt, (tt, (tt, (tt, (tt, (z .name .channel, (z .name .bit, (z .name .copy, tt))))))))) }
+umv-name = record { takes-all = λ κs inputs. tt; one-answer = λ κs inputs x y v w. with-lasts (λ (z : Naming). z .number) (λ (z : Naming). (tt, (tt, (tt, (tt, (tt, (tt, (z .name .channel, (z .name .bit, (z .name .copy, tt)))))))))) }
 
 pub umv-gather : Promised UmvGather.ended UmvGather.Reads.Asked UmvGather.Reads.Learnt
 umv-gather = record { takes-all = λ κs inputs. tt; one-answer = λ κs inputs x y v w. number-and (λ (buffer : List Float) (at : ℕ). (tt, (tt, (buffer, (at, tt))))) }

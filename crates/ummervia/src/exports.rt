@@ -171,6 +171,7 @@ pub extern "C" fn umv_part(
 pub extern "C" fn umv_name(
     bytes: &[u8],
     frame_number: u32,
+    subframe: u32,
     slot: u32,
     phch: u32,
     place: u32,
@@ -178,11 +179,12 @@ pub extern "C" fn umv_name(
     bit: &mut u64,
     copy: &mut u64,
 ) -> u32
-    ensures { λ r. ⌜ nameLeft r (now (trch .exit)) (now (bit .exit)) (now (copy .exit)) ≡ nameAnswer (now (bytes .entry)) «frame_number» slot phch place ⌝ }
+    ensures { λ r. ⌜ nameLeft r (now (trch .exit)) (now (bit .exit)) (now (copy .exit)) ≡ nameAnswer (now (bytes .entry)) «frame_number» subframe slot phch place ⌝ }
 {
     let answer = name(
         bytes,
         FrameNumber(frame_number),
+        subframe,
         slot,
         PhchNumber(phch),
         place,

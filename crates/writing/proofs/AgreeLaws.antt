@@ -11,13 +11,12 @@ use Rattle.laws.specs.Tables.{table, upTo}
 use Rattle.laws.specs.Sums.{sumTo, anyTo}
 use Rattle.laws.proofs.TableLaws.{filled-at, upTo-below, upTo-past}
 use Rattle.laws.proofs.SumLaws.{sum-same, any-same}
-use Rattle.sheet.specs.Counts.{mostChannels, mostSlots, mostCodes, mostPaired, mostLog}
+use Rattle.sheet.specs.Counts.{mostChannels, mostSlots, mostCodes, mostPaired, mostLcrSlots, mostLog}
 use Rattle.sheet.specs.Layout.{channelAt, slotWidth}
 use Rattle.sheet.specs.Fields.{ttiOf, encodedOf, phchsOf, capacityOf, logOf}
-use Rattle.sheet.specs.Sizes.{framesIn, segmentIn, equalisedOf, equalisedAll, slotCapacity, placesAll, capacityAll, bitsNeeded}
-use Rattle.sheet.specs.Numbers.{emptyPlace, slotBeyond, someBeyond, beyondUplink, silent, loadLines}
+use Rattle.sheet.specs.Sizes.{framesIn, segmentIn, equalisedOf, equalisedAll, slotCapacity, placesAll, subframesOf, capacityAll, bitsNeeded}
+use Rattle.sheet.specs.Numbers.{emptyPlace, slotBeyond, someBeyond, beyondUplink, beyondSubframe, silent, loadLines}
 use Rattle.sheet.proofs.NumberLaws.{emptySlot}
-use Rattle.sheet.proofs.SizeLaws.{one-subframe}
 use Rattle.sheet.specs.Range.{Ranged}
 use Rattle.sheet.specs.declared.Sheet.{Sheet}
 use Rattle.writing.specs.Written.{codeTrimmed, trimmed}
@@ -26,6 +25,7 @@ pub record Agree (a b : Sheet) : Type 0 where
   pub channels : a .channels ≡ b .channels
   pub slots : a .slots ≡ b .slots
   pub uplink : a .uplink ≡ b .uplink
+  pub lcr : a .lcr ≡ b .lcr
   pub tti : (i : ℕ) → i < b .channels → ttiOf a i ≡ ttiOf b i
   pub encoded : (i : ℕ) → i < b .channels → encodedOf a i ≡ encodedOf b i
   pub phchs : (t : ℕ) → t < b .slots → phchsOf a t ≡ phchsOf b t
@@ -53,7 +53,8 @@ module _ (a b : Sheet) (g : Agree a b) where
       (λ t l. ap (sumTo (capacityOf a t)) (g .phchs t l) ∙ sum-same (capacityOf a t) (capacityOf b t) (phchsOf b t) (λ p k. g .caps t p l k))
 
   agree-capacity : capacityAll a ≡ capacityAll b
-  agree-capacity = ap₂ _*_ (one-subframe a ∙ sym (one-subframe b)) agree-places
+  unfolding subframesOf
+  agree-capacity = ap₂ (λ (k w : ℕ). (1 + k) * w) (g .lcr) agree-places
 
   agree-empty : emptyPlace a ≡ emptyPlace b
   agree-empty =
@@ -76,6 +77,9 @@ module _ (a b : Sheet) (g : Agree a b) where
       ∙ ap (λ (x : Bool). not (eqb (b .uplink) 0) && x)
       (any-same (λ t. slotBeyond (a .logs) t (phchsOf a t)) (λ t. slotBeyond (b .logs) t (phchsOf b t)) (b .slots) (agree-slot z))
 
+  agree-subframe : beyondSubframe a ≡ beyondSubframe b
+  agree-subframe = ap₂ (λ (k t : ℕ). not (eqb k 0) && ltb mostLcrSlots t) (g .lcr) (g .slots)
+
   agree-silent : silent a ≡ silent b
   agree-silent =
       ap not
@@ -84,7 +88,7 @@ module _ (a b : Sheet) (g : Agree a b) where
       (λ i l. ap (λ (x : ℕ). not (eqb x 0)) (g .encoded i l)))
 
   pub agree-lines : loadLines a ≡ loadLines b
-  agree-lines = rw (agree-empty, agree-beyond (ℕ-discrete (b .uplink) 0), agree-equalised, agree-capacity, agree-silent)
+  agree-lines = rw (agree-empty, agree-beyond (ℕ-discrete (b .uplink) 0), agree-subframe, agree-equalised, agree-capacity, agree-silent)
 
 -- the trimmed fields agree with the fields
 module _ (sh : Sheet) (r : Ranged sh) where
@@ -119,6 +123,7 @@ module _ (sh : Sheet) (r : Ranged sh) where
         channels = refl;
         slots = refl;
         uplink = refl;
+        lcr = refl;
         tti = λ i l. filled-at (ttiOf sh) (sh .channels) mostChannels i (omega (arith, r .few-channels)) l;
         encoded = λ i l. filled-at (encodedOf sh) (sh .channels) mostChannels i (omega (arith, r .few-channels)) l;
         phchs = λ t l. filled-at (phchsOf sh) (sh .slots) mostSlots t (omega (arith, r .few-slots)) l;

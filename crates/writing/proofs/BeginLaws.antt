@@ -5,13 +5,12 @@ use Prim.Native.Nat.{ℕ, zero, suc, _+_, _-_, _^_, _≤_, _<_}
 use native.Mathlib.Omega.{arith}
 use native.Mathlib.Decide.{decLt, ℕ-discrete}
 use lib.Arith.{lt-of-le-ne}
-use lib.Pow.{pow-pos}
 use lib.ListN.{length, getD, length-append, List·getD-append}
 use lib.Seq.{getD-append-add}
 use Rattle.laws.proofs.TableLaws.{table-at}
 use Rattle.bits.specs.Bits.{val, digit, field}
 use Rattle.bits.proofs.BitLaws.{val-field, field-after, digit-val}
-use Rattle.sheet.specs.Layout.{headWidths, widthTo, versionAt, versionWidth, modeAt, modeWidth, countAt, countWidth, slotsAt, slotsWidth, uplinkAt, uplinkWidth, topAt, topWidth, ttiWidth, encodedWidth, ratioWidth, codesWidth, logWidth, capacityWidth, channelAt, slotWidth}
+use Rattle.sheet.specs.Layout.{headWidths, widthTo, versionAt, versionWidth, modeAt, modeWidth, countAt, countWidth, slotsAt, slotsWidth, uplinkAt, uplinkWidth, lcrAt, lcrWidth, topAt, topWidth, spareAt, spareWidth, ttiWidth, encodedWidth, ratioWidth, codesWidth, logWidth, capacityWidth, channelAt, slotWidth}
 use Rattle.sheet.specs.Fields.{ttiOf, encodedOf, ratioOf, phchsOf, capacityOf, logOf}
 use Rattle.sheet.specs.Sizes.{slotAt}
 use Rattle.sheet.specs.Range.{Ranged}
@@ -136,11 +135,14 @@ module _ (sh : Sheet) (f : ℕ → ℕ) where
       pub read-uplink : val f uplinkAt uplinkWidth ≡ sh .uplink
       read-uplink = read-head 4 (omega arith) (omega (arith, r .uplink))
 
+      pub read-lcr : val f lcrAt lcrWidth ≡ sh .lcr
+      read-lcr = read-head 5 (omega arith) (omega (arith, r .lcr))
+
       pub read-top : val f topAt topWidth ≡ topOf sh
       read-top = read-head 6 (omega arith) (omega (arith, r .few-channels))
 
-      pub read-spare : (k : ℕ) → k < 8 → getD (headValues sh) k 0 ≡ 0 → val f (widthTo headWidths k) (getD headWidths k 0) ≡ 0
-      read-spare k l z = read-head k l (subst (λ (x : ℕ). x < 2 ^ getD headWidths k 0) (sym z) (pow-pos (getD headWidths k 0))) ∙ z
+      pub read-spare : val f spareAt spareWidth ≡ 0
+      read-spare = read-head 7 (omega arith) (omega arith)
 
       pub read-tti : (i : ℕ) → i < sh .channels → val f (channelAt i) ttiWidth ≡ ttiOf sh i
       unfolding channelBits

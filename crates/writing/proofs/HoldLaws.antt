@@ -12,7 +12,7 @@ use Rattle.laws.proofs.TableLaws.{zeros-at}
 use Rattle.bits.specs.Bits.{field}
 use Rattle.bits.proofs.BitLaws.{field-length, field-after, paste-before, paste-inside, paste-after}
 use Rattle.sheet.specs.Counts.{mostChannels, longestForm}
-use Rattle.sheet.specs.Layout.{headWidths, widthTo, versionAt, versionWidth, modeAt, modeWidth, countAt, countWidth, slotsAt, slotsWidth, uplinkAt, uplinkWidth, spareAt, spareWidth, topAt, topWidth, lastAt, lastWidth, ttiWidth, encodedWidth, ratioWidth, codesWidth, logWidth, capacityWidth, channelAt, slotWidth}
+use Rattle.sheet.specs.Layout.{headWidths, widthTo, versionAt, versionWidth, modeAt, modeWidth, countAt, countWidth, slotsAt, slotsWidth, uplinkAt, uplinkWidth, lcrAt, lcrWidth, topAt, topWidth, spareAt, spareWidth, ttiWidth, encodedWidth, ratioWidth, codesWidth, logWidth, capacityWidth, channelAt, slotWidth}
 use Rattle.sheet.specs.Fields.{ttiOf, encodedOf, ratioOf, phchsOf, capacityOf, logOf}
 use Rattle.sheet.specs.Sizes.{slotAt}
 use Rattle.sheet.specs.declared.Sheet.{Sheet}
@@ -152,13 +152,13 @@ module _ (sh : Sheet) where
       head-more 3 (omega arith) _ h3 et p4
 
   -- and the bits behind it
-  pub flags-put : (b : List ℕ) → Holds b room (headTo sh 4) → {u n : ℕ} {b1 b2 b3 b4 : List ℕ} → u ≡ sh .uplink → n ≡ sh .channels
-      → b1 ≡ paste b uplinkAt (field uplinkWidth u) uplinkWidth → b2 ≡ paste b1 spareAt (field spareWidth 0) spareWidth
-      → b3 ≡ paste b2 topAt (field topWidth ((n - 1) / 2 ^ countWidth)) topWidth → b4 ≡ paste b3 lastAt (field lastWidth 0) lastWidth
+  pub flags-put : (b : List ℕ) → Holds b room (headTo sh 4) → {u k n : ℕ} {b1 b2 b3 b4 : List ℕ} → u ≡ sh .uplink → k ≡ sh .lcr → n ≡ sh .channels
+      → b1 ≡ paste b uplinkAt (field uplinkWidth u) uplinkWidth → b2 ≡ paste b1 lcrAt (field lcrWidth k) lcrWidth
+      → b3 ≡ paste b2 topAt (field topWidth ((n - 1) / 2 ^ countWidth)) topWidth → b4 ≡ paste b3 spareAt (field spareWidth 0) spareWidth
       → Holds b4 room (headBits sh)
-  flags-put b h eu en p1 p2 p3 p4 =
+  flags-put b h eu ek en p1 p2 p3 p4 =
       let h1 = head-more 4 (omega arith) b h eu p1 in
-      let h2 = head-more 5 (omega arith) _ h1 refl p2 in
+      let h2 = head-more 5 (omega arith) _ h1 ek p2 in
       let h3 = head-more 6 (omega arith) _ h2 (ap (λ (x : ℕ). (x - 1) / 2 ^ countWidth) en) p3 in
       head-more 7 (omega arith) _ h3 refl p4
 

@@ -20,6 +20,7 @@ full =
       channels = mostChannels;
       slots = mostSlots;
       uplink = 0;
+      lcr = 0;
       tti = replicate mostChannels 0;
       e = replicate mostChannels 1;
       rm = replicate mostChannels 1;

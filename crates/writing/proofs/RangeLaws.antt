@@ -16,7 +16,7 @@ use Rattle.sheet.specs.Sizes.{bytesNeeded}
 use Rattle.sheet.specs.Numbers.{loadLines}
 use Rattle.sheet.specs.Range.{Ranged}
 use Rattle.sheet.specs.declared.Sheet.{Sheet}
-use Rattle.writing.specs.Numbers.{outside, channelOutside, slotOutside, fieldOutside, fieldLines, fieldNumber, writeNumber}
+use Rattle.writing.specs.Numbers.{outside, channelOutside, slotOutside, flagOutside, fieldOutside, fieldLines, fieldNumber, writeNumber}
 
 -- neither below nor over
 within : (least most x : ℕ) → outside least most x ≡ false → (least ≤ x) × (x ≤ most)
@@ -37,11 +37,14 @@ abbrev overCapacity : Sheet → ℕ → Bool
 overCapacity sh t = anyTo (λ p. ltb mostCapacity (capacityOf sh t p)) (phchsOf sh t)
 
 module _ (sh : Sheet) (h : fieldOutside sh ≡ false) where
-  beside : (ltb 1 (sh .uplink) || (outside 1 mostChannels (sh .channels) || (ltb mostSlots (sh .slots) || (someChannel sh || someSlot sh)))) ≡ false
-  beside = or-right (ltb 1 (sh .mode)) _ h
+  flags : flagOutside sh ≡ false
+  flags = or-left (flagOutside sh) _ h
+
+  beside : (ltb 1 (sh .uplink) || ltb 1 (sh .lcr)) ≡ false
+  beside = or-right (ltb 1 (sh .mode)) _ flags
 
   counts : (outside 1 mostChannels (sh .channels) || (ltb mostSlots (sh .slots) || (someChannel sh || someSlot sh))) ≡ false
-  counts = or-right (ltb 1 (sh .uplink)) _ beside
+  counts = or-right (flagOutside sh) _ h
 
   slots : (ltb mostSlots (sh .slots) || (someChannel sh || someSlot sh)) ≡ false
   slots = or-right (outside 1 mostChannels (sh .channels)) _ counts
@@ -70,8 +73,9 @@ module _ (sh : Sheet) (h : fieldOutside sh ≡ false) where
   pub ranged-of : Ranged sh
   ranged-of =
       record {
-        mode = ltb-false 1 (sh .mode) (or-left _ _ h);
-        uplink = ltb-false 1 (sh .uplink) (or-left _ (outside 1 mostChannels (sh .channels) || (ltb mostSlots (sh .slots) || (someChannel sh || someSlot sh))) beside);
+        mode = ltb-false 1 (sh .mode) (or-left _ (ltb 1 (sh .uplink) || ltb 1 (sh .lcr)) flags);
+        uplink = ltb-false 1 (sh .uplink) (or-left _ (ltb 1 (sh .lcr)) beside);
+        lcr = ltb-false 1 (sh .lcr) (or-right (ltb 1 (sh .uplink)) _ beside);
         one = number .0;
         few-channels = number .1;
         few-slots = ltb-false mostSlots (sh .slots) (or-left _ (someChannel sh || someSlot sh) slots);
@@ -89,8 +93,7 @@ module _ (sh : Sheet) (h : fieldOutside sh ≡ false) where
 
 pub inside-of : (sh : Sheet) → Ranged sh → fieldOutside sh ≡ false
 inside-of sh r =
-    ap₂ _||_ (le-ltb 1 (sh .mode) (r .mode))
-    (ap₂ _||_ (le-ltb 1 (sh .uplink) (r .uplink))
+    ap₂ _||_ (ap₂ _||_ (le-ltb 1 (sh .mode) (r .mode)) (ap₂ _||_ (le-ltb 1 (sh .uplink) (r .uplink)) (le-ltb 1 (sh .lcr) (r .lcr))))
     (ap₂ _||_ (not-outside 1 mostChannels (sh .channels) (r .one) (r .few-channels))
     (ap₂ _||_ (le-ltb mostSlots (sh .slots) (r .few-slots))
     (ap₂ _||_
@@ -101,7 +104,7 @@ inside-of sh r =
     (any-none (slotOutside sh) (sh .slots)
     (λ t l.
     ap₂ _||_ (not-outside 1 mostCodes (phchsOf sh t) (r .phch t l) (r .phch16 t l))
-    (any-none (λ p. ltb mostCapacity (capacityOf sh t p)) (phchsOf sh t) (λ p k. le-ltb mostCapacity _ (r .caps t p l k)))))))))
+    (any-none (λ p. ltb mostCapacity (capacityOf sh t p)) (phchsOf sh t) (λ p k. le-ltb mostCapacity _ (r .caps t p l k))))))))
 
 field-numbered : (sh : Sheet) → Numbered (fieldLines sh)
 field-numbered sh = numbered-of (fieldLines sh) refl

@@ -16,7 +16,7 @@ use Rattle.bits.specs.Bits.{val, bitAt, bitsAt, bitOf}
 use Rattle.bits.proofs.BitLaws.{packed-bit, val-zero}
 use Rattle.sheet.specs.Counts.{mostChannels, mostSlots, mostCodes, mostPaired}
 use Rattle.sheet.specs.Layout.{codesWidth, logWidth, capacityWidth, channelAt, slotWidth}
-use Rattle.sheet.specs.Fields.{headIn, channelsIn, slotsIn, uplinkIn, slotFrom, phchsIn, codeLog, codeCapacity, codesIn, sheetOf, phchsOf, capacityOf, logOf}
+use Rattle.sheet.specs.Fields.{channelsIn, slotsIn, uplinkIn, slotFrom, phchsIn, codeLog, codeCapacity, codesIn, sheetOf, phchsOf, capacityOf, logOf}
 use Rattle.sheet.specs.Sizes.{slotAt, bitsNeeded, bytesNeeded}
 use Rattle.sheet.specs.Numbers.{beyondUplink, loadLines, readAnswer}
 use Rattle.sheet.specs.Range.{Ranged}
@@ -24,19 +24,19 @@ use Rattle.sheet.proofs.FieldLaws.{startIn}
 use Rattle.sheet.proofs.NumberLaws.{Readable, loads-zero, paired-of, number-zero, accepted}
 use Rattle.sheet.specs.declared.Sheet.{Sheet}
 use Rattle.writing.specs.Numbers.{fieldNumber, writeNumber}
-use Rattle.writing.specs.Written.{headValues, sheetBits, bytesOf, codeTrimmed, trimmed}
+use Rattle.writing.specs.Written.{sheetBits, bytesOf, codeTrimmed, trimmed}
 use Rattle.writing.proofs.HoldLaws.{slots-length}
 use Rattle.writing.proofs.RangeLaws.{Sound, sound, writable}
 use Rattle.writing.proofs.ByteLaws.{slots-binary}
-use Rattle.writing.proofs.BeginLaws.{Begins, read-version, read-mode, read-count, read-slots, read-uplink, read-top, read-spare, read-tti, read-encoded, read-ratio, read-phchs, read-log, read-capacity}
+use Rattle.writing.proofs.BeginLaws.{Begins, read-version, read-mode, read-count, read-slots, read-uplink, read-lcr, read-top, read-spare, read-tti, read-encoded, read-ratio, read-phchs, read-log, read-capacity}
 use Rattle.writing.proofs.AgreeLaws.{agree-need, agree-lines, trim-agree}
 
-pub sheet-made : {v v' m m' c c' s s' k k' : ℕ} {a a' b b' d d' p p' u u' l l' : List ℕ} → v ≡ v' → m ≡ m' → c ≡ c' → s ≡ s' → k ≡ k' → a ≡ a' → b ≡ b'
-    → d ≡ d' → p ≡ p' → u ≡ u' → l ≡ l'
+pub sheet-made : {v v' m m' c c' s s' k k' f f' : ℕ} {a a' b b' d d' p p' u u' l l' : List ℕ} → v ≡ v' → m ≡ m' → c ≡ c' → s ≡ s' → k ≡ k' → f ≡ f'
+    → a ≡ a' → b ≡ b' → d ≡ d' → p ≡ p' → u ≡ u' → l ≡ l'
     → _≡_ {A = Sheet}
-    (record { version = v; mode = m; channels = c; slots = s; uplink = k; tti = a; e = b; rm = d; phchs = p; caps = u; logs = l })
-    (record { version = v'; mode = m'; channels = c'; slots = s'; uplink = k'; tti = a'; e = b'; rm = d'; phchs = p'; caps = u'; logs = l' })
-sheet-made e1 e2 e3 e4 e5 e6 e7 e8 e9 e10 e11 = rw (e1, e2, e3, e4, e5, e6, e7, e8, e9, e10, e11)
+    (record { version = v; mode = m; channels = c; slots = s; uplink = k; lcr = f; tti = a; e = b; rm = d; phchs = p; caps = u; logs = l })
+    (record { version = v'; mode = m'; channels = c'; slots = s'; uplink = k'; lcr = f'; tti = a'; e = b'; rm = d'; phchs = p'; caps = u'; logs = l' })
+sheet-made e1 e2 e3 e4 e5 e6 e7 e8 e9 e10 e11 e12 = rw (e1, e2, e3, e4, e5, e6, e7, e8, e9, e10, e11, e12)
 
 -- bytes that begin with the bits of a sheet in range have its fields
 module _ (sh : Sheet) (s : List ℕ) (b : Begins (bitAt s) (sheetBits sh)) (r : Ranged sh) (one : sh .version ≡ 1) (up : beyondUplink sh ≡ false) where
@@ -108,6 +108,7 @@ module _ (sh : Sheet) (s : List ℕ) (b : Begins (bitAt s) (sheetBits sh)) (r : 
   unfolding sheetOf trimmed
   sheet-same =
       sheet-made (read-version sh (bitAt s) b r one) (read-mode sh (bitAt s) b r one) count-same slots-same uplink-same
+      (read-lcr sh (bitAt s) b r one)
       (table-same _ _ mostChannels (channel-same _ _ (read-tti sh (bitAt s) b r one)))
       (table-same _ _ mostChannels (channel-same _ _ (read-encoded sh (bitAt s) b r one)))
       (table-same _ _ mostChannels (channel-same _ _ (λ i l. omega (arith, read-ratio sh (bitAt s) b r one i l, r .ratio i l))))
@@ -156,9 +157,6 @@ module _ (sh : Sheet) where
     need-back : bitsNeeded (sheetOf (bytesOf sh)) ≡ bitsNeeded sh
     need-back = ap bitsNeeded fields-back ∙ agree-need (trimmed sh) sh (trim-agree sh (w .ranged))
 
-    none-at : (k : ℕ) → k < 8 → getD (headValues sh) k 0 ≡ 0 → headIn (bytesOf sh) k ≡ 0
-    none-at = read-spare sh (bitAt (bytesOf sh)) begun (w .ranged) (w .version)
-
     readable-back : Readable (bytesOf sh)
     readable-back =
         record {
@@ -166,7 +164,7 @@ module _ (sh : Sheet) where
           version = ap (λ (x : Sheet). x .version) fields-back ∙ trim-version ∙ w .version;
           some = λ z. w .some (sym (ap (λ (x : Sheet). x .slots) fields-back ∙ trim-slots) ∙ z);
           exact = bytes-length ∙ ap (λ (x : ℕ). (x + 7) / 8) (sym need-back);
-          spare = omega (arith, none-at 5 (omega arith) refl, none-at 7 (omega arith) refl);
+          spare = read-spare sh (bitAt (bytesOf sh)) begun (w .ranged) (w .version);
           padding = ap₂ (λ (x y : ℕ). bitsAt (bytesOf sh) x (8 * y - x)) need-back bytes-length ∙ padding-zero;
           loads =
               ap (λ (x : Sheet). firstOf (loadLines x)) fields-back ∙ ap firstOf (agree-lines (trimmed sh) sh (trim-agree sh (w .ranged)))

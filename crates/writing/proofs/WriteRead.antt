@@ -11,10 +11,10 @@ use Rattle.bits.specs.Bits.{val, bitAt, packed, bitOf}
 use Rattle.bits.proofs.BitLaws.{bit-lt, bits-lt, packed-again, packed-same, val-none}
 use Rattle.sheet.specs.Counts.{longestSheet}
 use Rattle.sheet.specs.Layout.{headWidths, widthTo, countAt, countWidth, ttiWidth, encodedWidth, ratioWidth, codesWidth, logWidth, capacityWidth, channelAt, slotWidth}
-use Rattle.sheet.specs.Fields.{headIn, sparesIn, channelsIn, slotsIn, uplinkIn, slotFrom, phchsIn, codeLog, codeCapacity, sheetOf, ttiOf, encodedOf, ratioOf, phchsOf, capacityOf, logOf}
+use Rattle.sheet.specs.Fields.{headIn, spareIn, channelsIn, slotsIn, uplinkIn, slotFrom, sheetOf, ttiOf, encodedOf, ratioOf, phchsOf, capacityOf, logOf}
 use Rattle.sheet.specs.Sizes.{slotAt, bitsNeeded}
 use Rattle.sheet.specs.Numbers.{beyondUplink, readNumber}
-use Rattle.sheet.proofs.FieldLaws.{startIn, version-in, mode-in, channels-in, slots-in, uplink-in, tti-in, encoded-in, ratio-in, phchs-in, caps-in, logs-in, log-down, ranged-in}
+use Rattle.sheet.proofs.FieldLaws.{startIn, version-in, mode-in, channels-in, slots-in, uplink-in, lcr-in, tti-in, encoded-in, ratio-in, phchs-in, caps-in, logs-in, log-down, ranged-in}
 use Rattle.sheet.proofs.NumberLaws.{Readable, readable, loads-zero, paired-of, accepted-most}
 use Rattle.writing.specs.Numbers.{writeNumber}
 use Rattle.writing.specs.Written.{lowOf, topOf, headValues, headTo, headBits, channelBits, codeBits, slotsBits, sheetBits, bytesOf}
@@ -42,8 +42,8 @@ module _ (s : List ℕ) where
       caps-in s t p l (subst (λ (x : ℕ). p < x) (phchs-in s t l) k)
       ∙ ap₂ (λ (x u : ℕ). val (bitAt s) (x + slotWidth u p + logWidth u) capacityWidth) (slot-in t (omega arith)) (sym (uplink-in s))
 
-  -- the bytes begin with the bits of their fields, where the spare bits are 0 and number 13 has nothing to refuse
-  module _ (z : sparesIn s ≡ 0) (up : beyondUplink (sheetOf s) ≡ false) where
+  -- the bytes begin with the bits of their fields, where the spare bit is 0 and number 13 has nothing to refuse
+  module _ (z : spareIn s ≡ 0) (up : beyondUplink (sheetOf s) ≡ false) where
     log-up : (t p : ℕ) → t < slotsIn s → p < phchsOf (sheetOf s) t → Dec (sheetOf s .uplink ≡ 0)
         → logOf (sheetOf s) t p ≡ val (bitAt s) (slotAt (sheetOf s) t + slotWidth (sheetOf s .uplink) p) (logWidth (sheetOf s .uplink))
     unfolding val
@@ -68,7 +68,7 @@ module _ (s : List ℕ) where
         let low : lowOf (sheetOf s) ≡ headIn s 2 = omega (arith, channels-in s, bits-lt s countAt countWidth) in
         let top : topOf (sheetOf s) ≡ headIn s 6 = omega (arith, channels-in s, bits-lt s countAt countWidth) in
         let h4 = head-next 3 (slots-in s) (head-next 2 low (head-next 1 (mode-in s) (head-next 0 (version-in s) h0))) in
-        head-next 7 (omega arith) (head-next 6 top (head-next 5 (omega arith) (head-next 4 (uplink-in s) h4)))
+        head-next 7 (sym z) (head-next 6 top (head-next 5 (lcr-in s) (head-next 4 (uplink-in s) h4)))
 
     channels-up : (i : ℕ) → i ≤ channelsIn s → Begins (bitAt s) (channelBits (sheetOf s) i)
     unfolding channelBits

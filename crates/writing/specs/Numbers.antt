@@ -1,4 +1,4 @@
--- The lines of writing a sheet from its fields: 2 to 5, 13, 6 to 8, and 11 for the buffer.
+-- The lines of writing a sheet from its fields: 2 to 5, 13, 14, 6 to 8, and 11 for the buffer.
 use mathlib.Core.Bool.{Bool, not, _||_}
 use mathlib.Core.List.{List, [], _∷_, _++_}
 use Prim.Native.Nat.{ℕ}
@@ -11,7 +11,7 @@ use Rattle.sheet.specs.Sizes.{bytesNeeded}
 use Rattle.sheet.specs.Numbers.{loadLines}
 use Rattle.sheet.specs.declared.Sheet.{Sheet}
 
--- 4: a field is outside its range, and neither 2, 3, 5 nor 13 names it
+-- 4: a field is outside its range, and none of 2, 3, 5, 13 and 14 names it
 abbrev pub outside : ℕ → ℕ → ℕ → Bool
 outside least most x = ltb x least || ltb most x
 
@@ -21,12 +21,14 @@ channelOutside sh i = ltb mostTti (ttiOf sh i) || (ltb mostEncoded (encodedOf sh
 abbrev pub slotOutside : Sheet → ℕ → Bool
 slotOutside sh t = outside 1 mostCodes (phchsOf sh t) || anyTo (λ p. ltb mostCapacity (capacityOf sh t p)) (phchsOf sh t)
 
+abbrev pub flagOutside : Sheet → Bool
+flagOutside sh = ltb 1 (sh .mode) || (ltb 1 (sh .uplink) || ltb 1 (sh .lcr))
+
 abbrev pub fieldOutside : Sheet → Bool
 fieldOutside sh =
-    ltb 1 (sh .mode)
-    || (ltb 1 (sh .uplink)
+    flagOutside sh
     || (outside 1 mostChannels (sh .channels)
-    || (ltb mostSlots (sh .slots) || (anyTo (channelOutside sh) (sh .channels) || anyTo (slotOutside sh) (sh .slots)))))
+    || (ltb mostSlots (sh .slots) || (anyTo (channelOutside sh) (sh .channels) || anyTo (slotOutside sh) (sh .slots))))
 
 -- the lines that look at the fields alone
 abbrev pub fieldLines : Sheet → List Line

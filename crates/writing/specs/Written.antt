@@ -23,9 +23,9 @@ lowOf sh = (sh .channels - 1) % 2 ^ countWidth
 abbrev pub topOf : Sheet → ℕ
 topOf sh = (sh .channels - 1) / 2 ^ countWidth
 
--- what stands in the head's fields: version, mode, I-1 without its top bit, T, uplink, 0, the top bit of I-1, 0
+-- what stands in the head's fields: version, mode, I-1 without its top bit, T, uplink, 1.28 Mcps, the top bit of I-1, 0
 abbrev pub headValues : Sheet → List ℕ
-headValues sh = sh .version ∷ sh .mode ∷ lowOf sh ∷ sh .slots ∷ sh .uplink ∷ 0 ∷ topOf sh ∷ 0 ∷ []
+headValues sh = sh .version ∷ sh .mode ∷ lowOf sh ∷ sh .slots ∷ sh .uplink ∷ sh .lcr ∷ topOf sh ∷ 0 ∷ []
 
 -- the first k of them
 unfoldable pub headTo : Sheet → ℕ → List ℕ
@@ -83,6 +83,7 @@ trimmed sh =
       channels = sh .channels;
       slots = sh .slots;
       uplink = sh .uplink;
+      lcr = sh .lcr;
       tti = table (λ i. upTo (sh .channels) i (ttiOf sh i)) 0 mostChannels;
       e = table (λ i. upTo (sh .channels) i (encodedOf sh i)) 0 mostChannels;
       rm = table (λ i. upTo (sh .channels) i (ratioOf sh i)) 0 mostChannels;

@@ -4,7 +4,7 @@ ghost use mathlib.Core.Bool.{true, false};
 ghost use Prim.Native.Nat.{_≤_, _<_};
 ghost use Rattle.laws.specs.Sums.{anyTo};
 ghost use Rattle.sheet.specs.Counts.{mostChannels, mostSlots};
-ghost use Rattle.writing.specs.Numbers.{channelOutside, slotOutside, fieldOutside, fieldNumber, writeNumber};
+ghost use Rattle.writing.specs.Numbers.{channelOutside, slotOutside, flagOutside, fieldOutside, fieldNumber, writeNumber};
 use sheet::Sheet;
 use sheet::count;
 use sheet::counts::CHANNELS;
@@ -90,14 +90,24 @@ fn slots_outside(fields: Sheet) -> bool
     false
 }
 
-// Whether a field is outside its range, and neither 2, 3, 5 nor 13 names it.
-fn field_outside(fields: Sheet) -> bool
-    ensures { λ r. ⌜ r ≡ fieldOutside fields ⌝ }
+// Whether a field of one bit is over 1.
+fn flag_outside(fields: Sheet) -> bool
+    ensures { λ r. ⌜ r ≡ flagOutside fields ⌝ }
 {
     if 1 < fields.mode {
         return true;
     }
     if 1 < fields.uplink {
+        return true;
+    }
+    1 < fields.lcr
+}
+
+// Whether a field is outside its range, and none of 2, 3, 5, 13 and 14 names it.
+fn field_outside(fields: Sheet) -> bool
+    ensures { λ r. ⌜ r ≡ fieldOutside fields ⌝ }
+{
+    if flag_outside(fields) {
         return true;
     }
     let n = count(fields.channels);

@@ -24,8 +24,8 @@ use sheet::layout::COUNT_AT;
 use sheet::layout::COUNT_WIDTH;
 use sheet::layout::ENCODED_WIDTH;
 use sheet::layout::HEAD_WIDTH;
-use sheet::layout::LAST_AT;
-use sheet::layout::LAST_WIDTH;
+use sheet::layout::LCR_AT;
+use sheet::layout::LCR_WIDTH;
 use sheet::layout::LOG_WIDTH;
 use sheet::layout::MODE_AT;
 use sheet::layout::MODE_WIDTH;
@@ -65,9 +65,9 @@ fn put_flags(bs: &mut [u8], fields: Sheet)
 {
     let top = (wide(fields.channels) - 1) / TOP_COUNTS;
     bits::put_field(bs, UPLINK_AT, UPLINK_WIDTH, wide(fields.uplink));
-    bits::put_field(bs, SPARE_AT, SPARE_WIDTH, 0);
+    bits::put_field(bs, LCR_AT, LCR_WIDTH, wide(fields.lcr));
     bits::put_field(bs, TOP_AT, TOP_WIDTH, top);
-    bits::put_field(bs, LAST_AT, LAST_WIDTH, 0);
+    bits::put_field(bs, SPARE_AT, SPARE_WIDTH, 0);
 }
 
 fn put_channels(bs: &mut [u8], fields: Sheet)

@@ -1,37 +1,49 @@
 use mathlib.Core.Path.{_≡_, ap, ap₂, _∙_}
-use Prim.Native.Nat.{ℕ, _+_, _-_, _≤_, _<_}
+use mathlib.Core.List.{List}
+use Prim.Native.Nat.{ℕ, _+_, _*_, _-_, _%_, _≤_, _<_}
 use native.Mathlib.Omega.{arith}
 use lib.IntN.{pos, _-ℤ_}
 use lib.ListN.{getD}
-use Rattle.sheet.specs.Counts.{mostBits}
-use Rattle.sheet.specs.Sizes.{sizeOf}
+use Rattle.sheet.specs.Counts.{mostTti, mostBits}
+use Rattle.sheet.specs.Fields.{ttiOf}
+use Rattle.sheet.specs.Sizes.{framesIn, sizeOf}
 use Rattle.sheet.specs.declared.Sheet.{Sheet}
+use Rattle.orders.specs.Orders.{columnAt}
 use Rattle.matching.specs.Signed.{signedBy}
 use Rattle.matching.specs.Shares.{cutOf, shareOf, changeOf}
 use Rattle.matching.specs.declared.shares.Change.{Change}
+use Rattle.offset.specs.Offset.{startOf}
 use Rattle.opening.specs.declared.Opened.{Opened}
-use Rattle.opening.proofs.OpenLaws.{size-is, sizes-most, shares-most, capacity-most, low-is, cut-rises}
+use Rattle.opening.proofs.OpenLaws.{size-is, sizes-most, shares-most, low-is, cut-rises}
 use Rattle.frame.specs.Frame.{startAt}
-use Rattle.frame.proofs.SendLaws.{cut-share, cut-within, started}
+use Rattle.frame.proofs.SendLaws.{cut-share, started}
 use Rattle.naming.proofs.NamingLaws.{Part, part, asked, stood, name-is}
 use borrow.Author.Needs.{needs}
 use Rattle.naming.proofs.name_at.Statement.{statement}
 use Rattle.naming.proofs.name_at.Tie as tie
 
--- Z before and after the channel
-module _ (c : tie.After-channel-at) where
-  rises : getD (c .before .args .opened .cuts) (c .channel-at .result) 0 ≤ getD (c .before .args .opened .cuts) (c .channel-at .result + 1) 0
-  rises = cut-rises (c .before .args .opened) (c .before .pre .0) (c .channel-at .result) (c .channel-at .ensures .1)
+-- what is lent at the channel is what the opened sheet has there
+lent-at : {l m : List ℕ} → l ≡ m → (i : ℕ) → getD l i 0 ≡ getD m i 0
+lent-at e i = ap (λ (l : List ℕ). getD l i 0) e
 
-  within : getD (c .before .args .opened .cuts) (c .channel-at .result + 1) 0 ≤ mostBits
-  within =
-      let s = c .before in
-      omega (arith, cut-within (s .args .opened) (s .pre .0) (c .channel-at .result) (c .channel-at .ensures .1), capacity-most (s .args .opened .fields) (s .pre .0 .accepted))
+-- Z before and after the channel
+module _ (c : tie.After-wide3) where
+  abbrev h : tie.After-channel-at
+  h = c .before .before .before .before .before .before .before
+
+  before : c .before .before .wide2 .result ≡ getD (h .before .args .opened .cuts) (h .channel-at .result) 0
+  before = c .before .before .wide2 .ensures .0 ∙ lent-at (h .before .pre .3) (h .channel-at .result)
+
+  after : c .wide3 .result ≡ getD (h .before .args .opened .cuts) (h .channel-at .result + 1) 0
+  after = c .wide3 .ensures .0 ∙ lent-at (h .before .pre .3) (h .channel-at .result + 1)
 
 -- the channel's numbers
 module _ (c : tie.After-difference) where
+  abbrev k : tie.After-channel-at
+  k = h (c .before)
+
   abbrev s : tie.Start
-  s = c .before .before .before .before .before
+  s = k .before
 
   abbrev o : Opened
   o = s .args .opened
@@ -40,22 +52,34 @@ module _ (c : tie.After-difference) where
   f = o .fields
 
   abbrev i : ℕ
-  i = c .before .before .before .before .channel-at .result
+  i = k .channel-at .result
 
   abbrev d : Change
   d = c .difference .result
 
+  abbrev N : ℕ
+  N = c .before .before .before .before .before .wide .result
+
+  abbrev Z : ℕ
+  Z = c .before .before .before .wide2 .result
+
   here : Part f (s .args .x) i
-  here = part f (s .pre .0 .accepted) (s .args .x) (s .pre .1) (c .before .before .before .before .channel-at .ensures .0)
+  here = part f (s .pre .0 .accepted) (s .args .x) (s .pre .4) (k .channel-at .ensures .0)
 
-  sized : getD (o .sizes) i 0 ≡ sizeOf f i
-  sized = size-is o (s .pre .0) i (here .inside)
+  timed : getD (s .args .ttis .now) i 0 ≡ ttiOf f i
+  timed = lent-at (s .pre .1) i
 
-  low : getD (o .cuts) i 0 ≡ cutOf f i
-  low = low-is o (s .pre .0) i (here .inside)
+  known : getD (s .args .ttis .now) i 0 ≤ mostTti
+  known = rw timed (s .pre .0 .accepted .ranged .tti i (here .inside))
 
-  share : getD (o .cuts) (i + 1) 0 - getD (o .cuts) i 0 ≡ shareOf f i
-  share = cut-share o (s .pre .0) i (here .inside)
+  sized : N ≡ sizeOf f i
+  sized = c .before .before .before .before .before .wide .ensures .0 ∙ lent-at (s .pre .2) i ∙ size-is o (s .pre .0) i (here .inside)
+
+  low : Z ≡ cutOf f i
+  low = before (c .before) ∙ low-is o (s .pre .0) i (here .inside)
+
+  share : c .before .wide3 .result - Z ≡ shareOf f i
+  share = ap₂ _-_ (after (c .before)) (before (c .before)) ∙ cut-share o (s .pre .0) i (here .inside)
 
   changed : signedBy (d .less) (d .size) ≡ changeOf f i
   changed = c .difference .ensures .0 ∙ ap₂ (λ (v n : ℕ). pos v -ℤ pos n) share sized
@@ -73,7 +97,8 @@ begun : (c : tie.After-start-of)
     0 < sizeOf (f k) (i k) → 0 < d k .size → c .start-of .result ≡ startAt (f k) (s k .args .frame .0) (i k))
 begun c =
     let k = c .before in
-    started (f k) (s k .pre .0 .accepted) (i k) (here k .inside) (s k .args .frame .0) (d k .less) (d k .size) (sized k) (changed k) (c .start-of .ensures .0)
+    started (f k) (s k .pre .0 .accepted) (i k) (here k .inside) (s k .args .frame .0) (d k .less) (d k .size) (sized k) (changed k)
+    (λ a b. c .start-of .ensures .0 a b ∙ ap (λ (t : ℕ). startOf (N k) (signedBy (d k .less) (d k .size)) t (s k .args .frame .0)) (timed k))
 
 channel-at-requires : tie.Need-channel-at-requires
 channel-at-requires c κs = search needs
@@ -81,47 +106,49 @@ channel-at-requires c κs = search needs
 mul-tti : tie.Need-mul-tti
 mul-tti c = search needs
 
-array-read-tti : tie.Need-array-read-tti
-array-read-tti c = search needs
+element-copy-out-tti : tie.Need-element-copy-out-tti
+element-copy-out-tti c = search needs
 
-mul-n : tie.Need-mul-n
-mul-n c = search needs
+mul-wide : tie.Need-mul-wide
+mul-wide c = search needs
 
-array-read-n : tie.Need-array-read-n
-array-read-n c = search needs
+element-copy-out-wide : tie.Need-element-copy-out-wide
+element-copy-out-wide c = search needs
 
-cast-n : tie.Need-cast-n
-cast-n c = search needs
+wide-requires : tie.Need-wide-requires
+wide-requires c κs = search needs
 
-mul-low : tie.Need-mul-low
-mul-low c = search needs
+mul-wide-2 : tie.Need-mul-wide-2
+mul-wide-2 c = search needs
 
-array-read-low : tie.Need-array-read-low
-array-read-low c = search needs
+element-copy-out-wide-2 : tie.Need-element-copy-out-wide-2
+element-copy-out-wide-2 c = search needs
 
-cast-low : tie.Need-cast-low
-cast-low c = let k = c .before .before .before in omega (arith, rises k, within k)
+wide-requires-2 : tie.Need-wide-requires-2
+wide-requires-2 c κs = search needs
 
-add-w : tie.Need-add-w
-add-w c = search needs
+add-wide : tie.Need-add-wide
+add-wide c = search needs
 
-mul-w : tie.Need-mul-w
-mul-w c = search needs
+mul-wide-3 : tie.Need-mul-wide-3
+mul-wide-3 c = search needs
 
-array-read-w : tie.Need-array-read-w
-array-read-w c = search needs
+element-copy-out-wide-3 : tie.Need-element-copy-out-wide-3
+element-copy-out-wide-3 c = search needs
 
-cast-w : tie.Need-cast-w
-cast-w c = omega (arith, within (c .before .before .before))
+wide-requires-3 : tie.Need-wide-requires-3
+wide-requires-3 c κs = search needs
 
 sub-w : tie.Need-sub-w
-sub-w c = rises (c .before .before .before)
+sub-w c =
+    let t = h c .before in
+    omega (arith, before c, after c, cut-rises (t .args .opened) (t .pre .0) (h c .channel-at .result) (h c .channel-at .ensures .1))
 
 difference-requires : tie.Need-difference-requires
 difference-requires c κs = search needs
 
 start-of-requires : tie.Need-start-of-requires
-start-of-requires c κs = (omega (arith, sized c, few c), most c, s c .pre .0 .accepted .ranged .tti (i c) (here c .inside))
+start-of-requires c κs = (omega (arith, sized c, few c), most c, known c)
 
 sub-sent-at : tie.Need-sub-sent-at
 sub-sent-at c = let k = c .before in omega (arith, low k, here k .from)
@@ -138,14 +165,15 @@ at-requires c κs = search needs
 bit-number-requires : tie.Need-bit-number-requires
 bit-number-requires c κs =
     let k = c .before .before .before in
-    (s k .pre .0 .accepted .ranged .tti (i k) (here k .inside), omega (arith, c .before .sent-at .ensures .within, sized k, few k))
+    (known k, omega (arith, c .before .sent-at .ensures .within, sized k, few k))
 
 returns : tie.Need-returns
 returns c =
     let g = c .before .before .before in
     let k = g .before in
-    name-is (f k) (s k .args .frame .0) (s k .args .x) (i k) (k .before .before .before .before .channel-at .ensures .0) (c .before .at .ensures)
-    (c .bit-number .ensures)
+    let m = c .before .before .sent-at .result .bit in
+    name-is (f k) (s k .args .frame .0) (s k .args .x) (i k) (h (k .before) .channel-at .ensures .0) (c .before .at .ensures)
+    (c .bit-number .ensures ∙ ap (λ (t : ℕ). m * framesIn t + columnAt t (s k .args .frame .0 % framesIn t) + 1) (timed k))
     (stood (f k) (s k .pre .0 .accepted) (s k .args .frame .0) (s k .args .x) (i k) (here k) (d k .less) (d k .size) (g .start-of .result) (sized k) (share k)
     (ap (λ (z : ℕ). s k .args .x - z) (low k)) (changed k) (most k) (begun g) (c .before .before .sent-at .ensures))
 
@@ -155,17 +183,17 @@ name-at-spec =
     (tie.spec
     channel-at-requires
     mul-tti
-    array-read-tti
-    mul-n
-    array-read-n
-    cast-n
-    mul-low
-    array-read-low
-    cast-low
-    add-w
-    mul-w
-    array-read-w
-    cast-w
+    element-copy-out-tti
+    mul-wide
+    element-copy-out-wide
+    wide-requires
+    mul-wide-2
+    element-copy-out-wide-2
+    wide-requires-2
+    add-wide
+    mul-wide-3
+    element-copy-out-wide-3
+    wide-requires-3
     sub-w
     difference-requires
     start-of-requires

@@ -2,7 +2,7 @@ use mathlib.Core.Path.{_≡_, sym, subst}
 use Rattle.sheet.specs.Numbers.{loadOf}
 use Rattle.sheet.specs.Range.{Ranged}
 use Rattle.sheet.proofs.FieldLaws.{ranged-in}
-use Rattle.sheet.proofs.SizeLaws.{codes-few, load-is, load-capacity}
+use Rattle.sheet.proofs.SizeLaws.{codes-few, load-is, load-places}
 use Rattle.opening.proofs.OpenLaws.{accepted-read, opened-yes, opened-no}
 use borrow.Author.Needs.{needs}
 use Rattle.opening.proofs.open_sheet.Statement.{statement}
@@ -29,18 +29,22 @@ beyond-uplink-requires c κs = ranged (c .before .before .before .before .before
 read-number-requires : tie.Need-read-number-requires
 read-number-requires c κs = let k = c .before .before .before .before .before .before in (k .read-fields .ensures, ranged k, load (c .before), c .beyond-uplink .ensures)
 
+frame-places-requires : tie.Need-frame-places-requires
+frame-places-requires c κs =
+    let k = c .before .before .before .before .before .before .before .before in (ranged k, load-places (k .read-fields .result) (load (c .before .before .before)))
+
 open-fields-requires : tie.Need-open-fields-requires
 open-fields-requires c κs =
-    let k = c .before .before .before .before .before .before .before .before in (
-      accepted-read (c .before .before .before .before .before .before .before .before .before .before .args .bytes .now) _ (c .before .read-number .ensures) (k .read-fields .result) (k .read-fields .ensures) (c .if1 .taken),
-      load-capacity _ (load (c .before .before .before)),
+    let k = c .before .before .before .before .before .before .before .before .before in (
+      accepted-read (k .before .before .args .bytes .now) _ (c .before .before .read-number .ensures) (k .read-fields .result) (k .read-fields .ensures) (c .before .if1 .taken),
+      c .frame-places .ensures,
     )
 
 returns : tie.Need-returns
 returns c =
-    let k = c .before .before .before .before .before .before .before .before .before in
-    opened-yes (c .before .before .before .before .before .before .before .before .before .before .before .args .bytes .now) _ (c .before .before .read-number .ensures) (k .read-fields .result) _ (k .read-fields .ensures)
-    (c .before .if1 .taken) (c .open-fields .ensures)
+    let k = c .before .before .before .before .before .before .before .before .before .before in
+    opened-yes (k .before .before .args .bytes .now) _ (c .before .before .before .read-number .ensures) (k .read-fields .result) _ (k .read-fields .ensures)
+    (c .before .before .if1 .taken) (c .open-fields .ensures)
 
 zeros-requires : tie.Need-zeros-requires
 zeros-requires c κs = search needs
@@ -57,6 +61,7 @@ open-sheet-spec =
     whole-load-requires
     beyond-uplink-requires
     read-number-requires
+    frame-places-requires
     open-fields-requires
     returns
     zeros-requires

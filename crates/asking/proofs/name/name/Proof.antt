@@ -5,7 +5,6 @@ use lib.Dec.{ltb}
 use Rattle.counters.specs.Lines.{line}
 use Rattle.opening.specs.Opened.{Opens}
 use Rattle.opening.specs.declared.OpenAnswer.{OpenAnswer}
-use Rattle.naming.specs.Name.{onlySubframe}
 use Rattle.naming.proofs.ExistLaws.{exists}
 use Rattle.looking.specs.Looking.{lastFrame, frameLines, Begun}
 use Rattle.looking.proofs.LookLaws.{begun-no, begun-late, begun-yes, begun-opens}
@@ -44,7 +43,7 @@ returns c =
     let r = o .open-sheet .result in
     let z = c .before .if1 .taken in
     c .no-name .ensures
-    ∙ name-no (a .bytes .now) (a .frame .0) r (begun-no (a .bytes .now) (a .frame .0) r (o .open-sheet .ensures) z) (a .slot) (a .phch .0) (a .place) z
+    ∙ name-no (a .bytes .now) (a .frame .0) r (begun-no (a .bytes .now) (a .frame .0) r (o .open-sheet .ensures) z) (a .subframe) (a .slot) (a .phch .0) (a .place) z
 
 is-over-requires : tie.Need-is-over-requires
 is-over-requires c κs = search needs
@@ -61,7 +60,7 @@ returns-2 c =
     let r = o .open-sheet .result in
     c .no-name2 .ensures
     ∙ name-no (a .bytes .now) (a .frame .0) (record { number = 9; opened = r .opened })
-    (begun-late (a .bytes .now) (a .frame .0) r (o .open-sheet .ensures) (e .if1 .left) (sym (v .is-over .ensures) ∙ c .before .if2 .taken)) (a .slot) (a .phch .0) (a .place)
+    (begun-late (a .bytes .now) (a .frame .0) r (o .open-sheet .ensures) (e .if1 .left) (sym (v .is-over .ensures) ∙ c .before .if2 .taken)) (a .subframe) (a .slot) (a .phch .0) (a .place)
     (λ q. omega arith)
 
 exists-lent-requires : tie.Need-exists-lent-requires
@@ -69,21 +68,24 @@ exists-lent-requires c κs = (opens (c .before .before .before .before) .accepte
 
 name-lent-requires : tie.Need-name-lent-requires
 name-lent-requires c κs =
-    let t = c .before .before .before .before in
+    let t = c .before .before .before .before .before .before .before in
     let k = t .before .before .before .before .before .before in
     let a = s k .args in (
       opens k,
       refl,
       refl,
-      exists (answer k .opened .fields) onlySubframe (a .slot) (a .phch .0) (a .place) .0 (sym (t .before .exists-lent .ensures) ∙ t .if3 .taken),
+      refl,
+      refl,
+      refl,
+      exists (answer k .opened .fields) (a .subframe) (a .slot) (a .phch .0) (a .place) .0 (sym (t .before .exists-lent .ensures) ∙ t .if3 .taken),
     )
 
 returns-3 : tie.Need-returns-3
 returns-3 c =
-    let t = c .before .before .before .before .before in
+    let t = c .before .before .before .before .before .before .before .before in
     let k = t .before .before .before .before .before .before in
     let a = s k .args in
-    name-yes (a .bytes .now) (a .frame .0) (answer k) (begun k) (a .slot) (a .phch .0) (a .place) (k .before .before .if1 .left)
+    name-yes (a .bytes .now) (a .frame .0) (answer k) (begun k) (a .subframe) (a .slot) (a .phch .0) (a .place) (k .before .before .if1 .left)
     (sym (t .before .exists-lent .ensures) ∙ t .if3 .taken) (c .name-lent .ensures)
 
 no-name-requires-3 : tie.Need-no-name-requires-3
@@ -95,7 +97,7 @@ returns-4 c =
     let k = t .before .before .before .before .before .before in
     let a = s k .args in
     c .no-name3 .ensures
-    ∙ name-absent (a .bytes .now) (a .frame .0) (answer k) (begun k) (a .slot) (a .phch .0) (a .place) (k .before .before .if1 .left)
+    ∙ name-absent (a .bytes .now) (a .frame .0) (answer k) (begun k) (a .subframe) (a .slot) (a .phch .0) (a .place) (k .before .before .if1 .left)
     (sym (t .before .exists-lent .ensures) ∙ t .if3 .left)
 
 pub name-spec : {M : Type 1} → statement M

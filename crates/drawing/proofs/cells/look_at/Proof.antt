@@ -4,10 +4,10 @@ use Rattle.drawing.proofs.cells.look_at.Statement.{statement}
 use Rattle.drawing.proofs.cells.look_at.Tie as tie
 
 abbrev Inv-loop : tie.InvT-loop
-Inv-loop sheet frame e slot phch looks₀ n i₀ looks i = i ≤ n
+Inv-loop sheet frame e subframe slot phch looks₀ n i₀ looks i = i ≤ n
 
 abbrev μ-loop : tie.MeasureT-loop
-μ-loop sheet frame e slot phch looks₀ n i₀ looks i = n - i
+μ-loop sheet frame e subframe slot phch looks₀ n i₀ looks i = n - i
 
 loop-holds : tie.Need-loop-holds Inv-loop μ-loop
 loop-holds c = search needs

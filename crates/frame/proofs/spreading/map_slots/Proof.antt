@@ -1,95 +1,84 @@
 use borrow.Author.Needs.{needs}
 use native.Mathlib.Omega.{arith}
-use mathlib.Core.Path.{_∙_}
-use Prim.Native.Nat.{_-_, _<_}
-use Rattle.frame.specs.Frame.{slotPart, slotMapped, mappedSlots}
-use Rattle.frame.specs.Slots.{Slotwise}
-use Rattle.frame.proofs.SpreadLaws.{slots-start, span-asks, slots-turn, slots-end, slot-fits, slot-made, one-frame}
+use mathlib.Core.Path.{_≡_, refl, sym, ap, _∙_}
+use Prim.Native.Nat.{ℕ, _+_, _-_, _<_}
+use Rattle.laws.specs.Joined.{inRows}
+use Rattle.laws.proofs.SumLaws.{sum-const}
+use Rattle.sheet.specs.Sizes.{placesAll, subframesOf}
+use Rattle.frame.specs.Frame.{mappedSubframe, mappedSlots}
+use Rattle.frame.specs.Slots.{Partwise}
+use Rattle.frame.proofs.SpreadLaws.{parts-start, next-within, next-long, parts-turn, parts-end}
 use Rattle.frame.proofs.spreading.map_slots.Statement.{statement}
 use Rattle.frame.proofs.spreading.map_slots.Tie as tie
 
 abbrev Inv-loop : tie.InvT-loop
-Inv-loop bits fields out₀ phchs caps t₀ a₀ out t a = Slotwise fields (λ k. slotMapped fields k (slotPart fields 0 k bits)) out₀ out t a
+Inv-loop bits fields out₀ k w phchs caps logs h₀ a₀ out h a = Partwise (λ i. placesAll fields) (subframesOf fields) (λ i. mappedSubframe fields i bits) out₀ out h a
 
 abbrev μ-loop : tie.MeasureT-loop
-μ-loop bits fields out₀ phchs caps t₀ a₀ out t a = fields .slots - t
+μ-loop bits fields out₀ k w phchs caps logs h₀ a₀ out h a = k - h
+
+-- the sub-frame's places, from a up to e
+module _ (c : tie.In-loop Inv-loop μ-loop) where
+  abbrev start : tie.Start Inv-loop μ-loop
+  start = c .before .before .before .before .before .before .before .before .before
+
+  abbrev turn : tie.At-loop Inv-loop μ-loop
+  turn = c .before
+
+  inside : turn .loop .h < subframesOf (start .args .fields)
+  inside = omega (arith, c .before .before .before .before .before .before .subframes .ensures .0)
+
+  end : turn .loop .a + c .before .before .before .before .before .subframe-places .result ≡ turn .loop .a + placesAll (start .args .fields)
+  end = ap (λ (w : ℕ). turn .loop .a + w) (c .before .before .before .before .before .subframe-places .ensures)
+
+subframes-requires : tie.Need-subframes-requires Inv-loop μ-loop
+subframes-requires c κs = search needs
+
+subframe-places-requires : tie.Need-subframe-places-requires Inv-loop μ-loop
+subframe-places-requires c κs = search needs
 
 loop-holds : tie.Need-loop-holds Inv-loop μ-loop
-loop-holds c = slots-start _ _ _
+loop-holds c =
+    let s = c .before .before .before .before .before .before .before in
+    let all = sum-const (λ i. placesAll (s .args .fields)) (placesAll (s .args .fields)) (subframesOf (s .args .fields)) (λ i l. refl) in
+    parts-start _ _ _ _ (s .pre .2 ∙ sym all) refl
 
-count-requires : tie.Need-count-requires Inv-loop μ-loop
-count-requires c κs = search needs
+add-e : tie.Need-add-e Inv-loop μ-loop
+add-e c = omega (arith, next-within (turn c .loop .inv) (inside c) (end c))
 
-runs-at-requires : tie.Need-runs-at-requires Inv-loop μ-loop
-runs-at-requires c κs = (c .before .before .before .before .before .before .before .pre .0, omega arith)
+sub-map-subframe : tie.Need-sub-map-subframe Inv-loop μ-loop
+sub-map-subframe c = omega arith
 
-span-of-requires : tie.Need-span-of-requires Inv-loop μ-loop
-span-of-requires c κs = span-asks (c .before .before .before .before .before .loop .inv) (c .before .before .before .before .before .before .before .before .before .before .pre) (omega arith)
+part-map-subframe-start : tie.Need-part-map-subframe-start Inv-loop μ-loop
+part-map-subframe-start c = omega arith
 
-sub-map-slot : tie.Need-sub-map-slot Inv-loop μ-loop
-sub-map-slot c = omega arith
+part-map-subframe-end : tie.Need-part-map-subframe-end Inv-loop μ-loop
+part-map-subframe-end c = let i = c .before .before .before in omega (arith, next-within (turn i .loop .inv) (inside i) (end i))
 
-part-map-slot-start : tie.Need-part-map-slot-start Inv-loop μ-loop
-part-map-slot-start c = omega arith
+map-subframe-requires : tie.Need-map-subframe-requires Inv-loop μ-loop
+map-subframe-requires c κs =
+    let i = c .before .before .before .before in
+    (start i .pre .0, refl, refl, refl, inside i, start i .pre .1, next-long (turn i .loop .inv) (inside i) (end i))
 
-part-map-slot-end : tie.Need-part-map-slot-end Inv-loop μ-loop
-part-map-slot-end c = omega arith
-
-mul-map-slot : tie.Need-mul-map-slot Inv-loop μ-loop
-mul-map-slot c = omega (arith, c .before .span-of .ensures .from, c .before .span-of .ensures .to, c .before .span-of .ensures .few)
-
-sub-map-slot-2 : tie.Need-sub-map-slot-2 Inv-loop μ-loop
-sub-map-slot-2 c = omega (arith, c .before .span-of .ensures .from, c .before .span-of .ensures .to)
-
-part-map-slot-start-2 : tie.Need-part-map-slot-start-2 Inv-loop μ-loop
-part-map-slot-start-2 c = omega (arith, c .before .before .span-of .ensures .from, c .before .before .span-of .ensures .to)
-
-part-map-slot-end-2 : tie.Need-part-map-slot-end-2 Inv-loop μ-loop
-part-map-slot-end-2 c = omega (arith, c .before .before .span-of .ensures .few)
-
-sub-map-slot-3 : tie.Need-sub-map-slot-3 Inv-loop μ-loop
-sub-map-slot-3 c = omega (arith, c .before .before .before .span-of .ensures .end, c .before .before .before .span-of .ensures .within)
-
-part-map-slot-start-3 : tie.Need-part-map-slot-start-3 Inv-loop μ-loop
-part-map-slot-start-3 c = omega (arith, c .before .before .before .span-of .ensures .end, c .before .before .before .span-of .ensures .within)
-
-part-map-slot-end-3 : tie.Need-part-map-slot-end-3 Inv-loop μ-loop
-part-map-slot-end-3 c = omega (arith, c .before .before .before .span-of .ensures .end, c .before .before .before .span-of .ensures .within)
-
-map-slot-requires : tie.Need-map-slot-requires Inv-loop μ-loop
-map-slot-requires c κs =
-    let k = c .before .before .before .before in
-    let l = k .before .before .before .before .before .before .loop in
-    let s = k .before .before .before .before .before .before .before .before .before .before .before in
-    let b : l .t < s .args .fields .slots = omega (arith, k .before .before .before .before .if1 .taken, k .before .before .before .before .before .count .ensures .0) in
-    slot-fits (s .args .fields) (l .t) (l .inv .begins) (k .span-of .ensures) (s .pre .0) b (s .args .bits .now) (l .out) (s .pre .1) (l .inv .long ∙ s .pre .2)
-    (k .before .before .before .runs-at .ensures)
+add-h : tie.Need-add-h Inv-loop μ-loop
+add-h c = omega arith
 
 loop-less : tie.Need-loop-less Inv-loop μ-loop
 loop-less c = omega arith
 
 loop-again : tie.Need-loop-again Inv-loop μ-loop
 loop-again c =
-    let i = c .before .before in
-    let k = i .before .before .before .before .before in
-    let l = k .before .before .before .before .before .before .loop in
-    let s = k .before .before .before .before .before .before .before .before .before .before .before in
-    let b : l .t < s .args .fields .slots = omega (arith, k .before .before .before .before .if1 .taken, k .before .before .before .before .before .count .ensures .0) in
-    let p = k .span-of .ensures in
-    slots-turn (l .inv) p b
-    (slot-made (s .args .fields) (l .t) (l .inv .begins) p (s .pre .0) b (s .args .bits .now) (l .out) (s .pre .1) (l .inv .long ∙ s .pre .2)
-    (k .before .before .before .runs-at .ensures) (i .map-slot .ensures))
+    let i = c .before .before .before .before .before .before .before in
+    parts-turn (turn i .loop .inv) (inside i) (end i) refl (c .before .out .given .0) (c .before .before .map-subframe .ensures)
 
 same-length : tie.Need-same-length Inv-loop μ-loop
-same-length c = c .before .before .loop .inv .long
+same-length c = c .before .loop .inv .long
 
 returns : tie.Need-returns Inv-loop μ-loop
-unfolding mappedSlots
-returns c =
-    let s = c .before .before .before .before .before .before .before in
-    slots-end (c .before .before .loop .inv) (omega arith) (s .pre .2) ∙ one-frame (s .args .fields) _
+unfolding mappedSlots mappedSubframe inRows
+returns c = parts-end (c .before .loop .inv) (omega arith)
 
 pub map-slots-spec : {M : Type 1} → statement M
 map-slots-spec =
     tie.close
-    (tie.spec Inv-loop μ-loop loop-holds count-requires runs-at-requires span-of-requires sub-map-slot part-map-slot-start part-map-slot-end mul-map-slot sub-map-slot-2 part-map-slot-start-2 part-map-slot-end-2 sub-map-slot-3 part-map-slot-start-3 part-map-slot-end-3 map-slot-requires loop-less loop-again same-length returns)
+    (tie.spec Inv-loop μ-loop subframes-requires subframe-places-requires loop-holds add-e sub-map-subframe part-map-subframe-start part-map-subframe-end map-subframe-requires add-h loop-less loop-again same-length returns)

@@ -1,4 +1,4 @@
-use mathlib.Core.Path.{ap, _∙_}
+use mathlib.Core.Path.{refl, ap, _∙_}
 use lib.Ieee.{nan}
 use Rattle.homing.specs.Gather.{undoneBits, gathered}
 use borrow.Author.Needs.{needs}
@@ -9,7 +9,10 @@ unmap-slots-requires : tie.Need-unmap-slots-requires
 unmap-slots-requires c κs = search needs
 
 undo-bits-requires : tie.Need-undo-bits-requires
-undo-bits-requires c κs = search needs
+undo-bits-requires c κs =
+    let r = c .before .before .before .before .before in
+    let s = r .before .before .before .before .before .before .before .before .before .before .before .before in
+    (s .pre .0, refl, refl, r .room .given ∙ s .pre .2, s .pre .3)
 
 same-length : tie.Need-same-length
 same-length c = search needs
@@ -21,8 +24,8 @@ returns : tie.Need-returns
 unfolding gathered
 returns c =
     let u = c .before .before in
-    let m = u .before .before .before .before .before in
-    let s = m .before .before .before .before .before in
+    let m = u .before .before .before .before .before .before .before in
+    let s = m .before .before .before .before .before .before .before .before .before .before .before in
     u .undo-bits .ensures ∙ ap (undoneBits nan (s .args .fields)) (m .unmap-slots .ensures)
 
 pub gather-values-spec : {M : Type 1} → statement M

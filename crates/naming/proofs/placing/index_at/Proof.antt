@@ -1,11 +1,17 @@
 use native.Mathlib.Omega.{arith}
 use mathlib.Core.Path.{ap, _∙_}
 use Prim.Native.Nat.{ℕ, _-_}
-use Rattle.naming.specs.Name.{slotBitAt, readFrom, multiplexedAt, onlySubframe}
+use Rattle.naming.specs.Name.{slotBitAt, readFrom, multiplexedAt}
 use Rattle.naming.proofs.Slots.{slot-in, phch-in}
 use borrow.Author.Needs.{needs}
 use Rattle.naming.proofs.placing.index_at.Statement.{statement}
 use Rattle.naming.proofs.placing.index_at.Tie as tie
+
+sub-h : tie.Need-sub-h
+sub-h c = search needs
+
+cast-h : tie.Need-cast-h
+cast-h c = search needs
 
 sub-t : tie.Need-sub-t
 sub-t c = search needs
@@ -24,8 +30,8 @@ slot-bit-requires c κs =
       s .pre .0 .accepted,
       s .pre .1,
       s .pre .2,
-      slot-in f onlySubframe (s .args .slot) (s .args .phch .0) (s .args .place) x,
-      omega (arith, c .index .ensures, phch-in f onlySubframe (s .args .slot) (s .args .phch .0) (s .args .place) x),
+      slot-in f (s .args .subframe) (s .args .slot) (s .args .phch .0) (s .args .place) x,
+      omega (arith, c .index .ensures, phch-in f (s .args .subframe) (s .args .slot) (s .args .phch .0) (s .args .place) x),
       x .place-from,
       rw (c .index .ensures) (x .place-to),
     )
@@ -41,8 +47,8 @@ returns c =
     let f = s .args .opened .fields in
     let t = s .args .slot - 1 in
     let e = k .slot-bit .ensures .0 ∙ ap (λ (p : ℕ). slotBitAt f t p (s .args .place)) (k .before .index .ensures) in
-    (c .read-at .ensures .0 ∙ ap (readFrom f 0 t) e, c .read-at .ensures .1)
+    (c .read-at .ensures .0 ∙ ap (readFrom f (s .args .subframe - 1) t) e, c .read-at .ensures .1)
 
 pub index-at-spec : {M : Type 1} → statement M
 index-at-spec =
-    tie.close (tie.spec sub-t cast-t index-requires slot-bit-requires read-at-requires returns)
+    tie.close (tie.spec sub-h cast-h sub-t cast-t index-requires slot-bit-requires read-at-requires returns)

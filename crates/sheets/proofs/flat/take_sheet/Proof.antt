@@ -51,9 +51,12 @@ shared-slice-read-t26 c = search needs
 shared-slice-read-t28 : tie.Need-shared-slice-read-t28
 shared-slice-read-t28 c = search needs
 
+shared-slice-read-t30 : tie.Need-shared-slice-read-t30
+shared-slice-read-t30 c = search needs
+
 returns : tie.Need-returns
 returns c =
-    let k6 = c .before .before .before .before .before in
+    let k6 = c .before .before .before .before .before .before in
     let k5 = k6 .before .before in
     let k4 = k5 .before .before .before in
     let k3 = k4 .before .before .before in
@@ -82,4 +85,5 @@ take-sheet-spec =
     shared-slice-read-t24
     shared-slice-read-t26
     shared-slice-read-t28
+    shared-slice-read-t30
     returns)

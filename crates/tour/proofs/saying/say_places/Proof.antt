@@ -4,10 +4,10 @@ use Rattle.tour.proofs.saying.say_places.Statement.{statement}
 use Rattle.tour.proofs.saying.say_places.Tie as tie
 
 abbrev Inv-loop : tie.InvT-loop
-Inv-loop sheet number m n slot phch place₀ place = place ≤ n + 1
+Inv-loop sheet number subframe m n slot phch place₀ place = place ≤ n + 1
 
 abbrev μ-loop : tie.MeasureT-loop
-μ-loop sheet number m n slot phch place₀ place = n + 1 - place
+μ-loop sheet number subframe m n slot phch place₀ place = n + 1 - place
 
 add-slot : tie.Need-add-slot Inv-loop μ-loop
 add-slot c = search needs
@@ -15,11 +15,11 @@ add-slot c = search needs
 cast-slot : tie.Need-cast-slot Inv-loop μ-loop
 cast-slot c = search needs
 
-add-t11 : tie.Need-add-t11 Inv-loop μ-loop
-add-t11 c = search needs
+add-t12 : tie.Need-add-t12 Inv-loop μ-loop
+add-t12 c = search needs
 
-cast-t12 : tie.Need-cast-t12 Inv-loop μ-loop
-cast-t12 c = search needs
+cast-t13 : tie.Need-cast-t13 Inv-loop μ-loop
+cast-t13 c = search needs
 
 loop-holds : tie.Need-loop-holds Inv-loop μ-loop
 loop-holds c = search needs
@@ -50,8 +50,8 @@ say-places-spec =
     μ-loop
     add-slot
     cast-slot
-    add-t11
-    cast-t12
+    add-t12
+    cast-t13
     loop-holds
     name-requires
     say-name-requires

@@ -6,10 +6,10 @@ use Rattle.tour.proofs.saying.say_rows.Statement.{statement}
 use Rattle.tour.proofs.saying.say_rows.Tie as tie
 
 abbrev Inv-loop : tie.InvT-loop
-Inv-loop row sheet number counts bits from₀ m₀ from m = from ≤ length bits
+Inv-loop row sheet number part counts bits first from₀ m₀ from m = from ≤ length bits
 
 abbrev μ-loop : tie.MeasureT-loop
-μ-loop row sheet number counts bits from₀ m₀ from m = length counts - m
+μ-loop row sheet number part counts bits first from₀ m₀ from m = length counts - m
 
 loop-holds : tie.Need-loop-holds Inv-loop μ-loop
 loop-holds c = search needs

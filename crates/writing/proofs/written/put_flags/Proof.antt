@@ -18,6 +18,9 @@ put-field-requires c κs = search needs
 put-field-requires-2 : tie.Need-put-field-requires-2
 put-field-requires-2 c κs = search needs
 
+wide-requires-3 : tie.Need-wide-requires-3
+wide-requires-3 c κs = search needs
+
 put-field-requires-3 : tie.Need-put-field-requires-3
 put-field-requires-3 c κs = search needs
 
@@ -29,13 +32,13 @@ same-length c = search needs
 
 returns : tie.Need-returns
 returns c =
-    let last = c .before .before in
-    let top = last .before .before .before .before in
-    let spare = top .before .before .before .before in
-    let uplink = spare .before .before .before .before in
+    let spare = c .before .before in
+    let top = spare .before .before .before .before in
+    let lcr = top .before .before .before .before in
+    let uplink = lcr .before .before .before .before .before in
     let start = uplink .before .before .before .before .before in
-    flags-put (start .args .fields) _ (start .pre .1) (uplink .before .wide2 .ensures .0) (uplink .before .before .before .wide .ensures .0)
-    (uplink .put-field .ensures) (spare .put-field2 .ensures) (top .put-field3 .ensures) (last .put-field4 .ensures)
+    flags-put (start .args .fields) _ (start .pre .1) (uplink .before .wide2 .ensures .0) (lcr .before .wide3 .ensures .0)
+    (uplink .before .before .before .wide .ensures .0) (uplink .put-field .ensures) (lcr .put-field2 .ensures) (top .put-field3 .ensures) (spare .put-field4 .ensures)
 
 pub put-flags-spec : {M : Type 1} → statement M
 put-flags-spec =
@@ -45,6 +48,7 @@ put-flags-spec =
     sub-top
     wide-requires-2
     put-field-requires
+    wide-requires-3
     put-field-requires-2
     put-field-requires-3
     put-field-requires-4

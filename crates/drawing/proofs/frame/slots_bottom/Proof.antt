@@ -1,10 +1,10 @@
 use Prim.Native.Nat.{_+_, _*_, _≤_, _-_}
 use borrow.Author.Needs.{needs}
-use Rattle.drawing.proofs.frame.bottom.Statement.{statement}
-use Rattle.drawing.proofs.frame.bottom.Tie as tie
+use Rattle.drawing.proofs.frame.slots_bottom.Statement.{statement}
+use Rattle.drawing.proofs.frame.slots_bottom.Tie as tie
 
 abbrev Inv-loop : tie.InvT-loop
-Inv-loop scale y caps b₀ m₀ b m = (m ≤ 240) × (b ≤ 1400000 + 1400000 * m)
+Inv-loop scale y caps b₀ m₀ b m = (m ≤ 240) × (b ≤ y + 1400000 * m)
 
 abbrev μ-loop : tie.MeasureT-loop
 μ-loop scale y caps b₀ m₀ b m = 240 - m
@@ -36,8 +36,8 @@ loop-again c = search needs
 returns : tie.Need-returns Inv-loop μ-loop
 returns c = search needs
 
-pub bottom-spec : {M : Type 1} → statement M
-bottom-spec =
+pub slots-bottom-spec : {M : Type 1} → statement M
+slots-bottom-spec =
     tie.close
     (tie.spec
     Inv-loop

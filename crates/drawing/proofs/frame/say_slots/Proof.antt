@@ -1,13 +1,13 @@
 use Prim.Native.Nat.{_+_, _*_, _≤_, _-_}
 use borrow.Author.Needs.{needs}
-use Rattle.drawing.proofs.frame.say_frame.Statement.{statement}
-use Rattle.drawing.proofs.frame.say_frame.Tie as tie
+use Rattle.drawing.proofs.frame.say_slots.Statement.{statement}
+use Rattle.drawing.proofs.frame.say_slots.Tie as tie
 
 abbrev Inv-loop : tie.InvT-loop
-Inv-loop out₀ at sheet frame fields scale y caps k₀ top₀ m₀ out k top m = (m ≤ 240) × (top ≤ 1400000 + 1400000 * m)
+Inv-loop out₀ at sheet frame fields scale subframe y caps k₀ top₀ m₀ out k top m = (m ≤ 240) × (top ≤ y + 1400000 * m)
 
 abbrev μ-loop : tie.MeasureT-loop
-μ-loop out₀ at sheet frame fields scale y caps k₀ top₀ m₀ out k top m = 240 - m
+μ-loop out₀ at sheet frame fields scale subframe y caps k₀ top₀ m₀ out k top m = 240 - m
 
 loop-holds : tie.Need-loop-holds Inv-loop μ-loop
 loop-holds c = search needs
@@ -39,8 +39,8 @@ loop-again c = search needs
 returns : tie.Need-returns Inv-loop μ-loop
 returns c = search needs
 
-pub say-frame-spec : {M : Type 1} → statement M
-say-frame-spec =
+pub say-slots-spec : {M : Type 1} → statement M
+say-slots-spec =
     tie.close
     (tie.spec
     Inv-loop
