@@ -8,15 +8,18 @@ SHELL := /bin/bash
 .NOTPARALLEL: # rt works with all processors by itself, and rt ci removes target/
 
 # Outside vectors, bigger than the repository's own, of the calls and of the lister; where a file is not there it is passed over.
-VECTORS ?= ../shared/vectors/after-C-14.txt
+VECTORS ?= ../shared/vectors/after-C-13.txt
 LISTINGS ?= ../shared/vectors/lister-after-C-14.txt
 
-# Outside vectors of releases 1, 2 and 3: what they accept stays as it was, but for the rows of fields, which have grown, and that a name is
-# asked with its sub-frame, 1, in front of the slot.
+# Outside vectors of release 4: all stay as they were, but that joined values are clipped, as vectors does with those of an unclipped file. Of
+# releases 1, 2 and 3 what they accept stays likewise, but for the rows of fields, which have grown, and that a name is asked with its sub-frame,
+# 1, in front of the slot.
+BEFORE ?= ../shared/vectors/after-C-14.txt
 STORED ?= ../shared/vectors/base.txt ../shared/vectors/after-C-11.txt ../shared/vectors/after-C-16.txt
 
 # The repository's own vectors that the library runs; the reference runs all.
-CASES := tests/cases/sheet.txt tests/cases/frame.txt tests/cases/home.txt tests/cases/uplink.txt tests/cases/sixteen.txt tests/cases/lcr.txt
+CASES := tests/cases/sheet.txt tests/cases/frame.txt tests/cases/home.txt tests/cases/uplink.txt tests/cases/sixteen.txt tests/cases/lcr.txt \
+	tests/cases/clip.txt
 
 # rt compiles for x86-64 on every machine: elsewhere such programs are linked by a cross compiler and run by qemu.
 ifeq ($(shell uname -m),x86_64)
@@ -61,9 +64,10 @@ ctest: target/c/calls target/c/values target/c/vectors target/c/loop target/c/ra
 	else echo "vectors: $$2 is not there: skipped"; fi; }; \
 	for file in tests/cases/*.txt '$(VECTORS)'; do run reference "$$file"; done; \
 	for file in $(CASES) '$(VECTORS)'; do run library "$$file"; done; \
+	for by in reference library; do run "$$by" '$(BEFORE)' unclipped; done; \
 	for file in $(STORED); do if [ -f "$$file" ]; then \
 	grep -Ev '^(read|length|write) ' "$$file" | grep ' => 0 ' | sed -E 's/^(name [^ ]+ [^ ]+) /\1 1 /' > target/c/stored.txt; \
-	echo "accepted in $$file:"; run library target/c/stored.txt; \
+	echo "accepted in $$file:"; run library target/c/stored.txt unclipped; \
 	else echo "vectors: $$file is not there: skipped"; fi; done
 	$(RUN) target/c/loop
 	$(RUN) target/c/random

@@ -127,7 +127,7 @@ static void send_frame(struct station *s, uint32_t number)
     must(umv_build(s->sheet, s->sheet_len, number, s->contents, s->contents_len, s->frame, s->capacity, &at), "umv_build");
 }
 
-/* A heard bit comes home as +1 or -1 times the number of its copies, a punctured one as 0. */
+/* A heard bit comes home as +1 or -1 times the number of its copies, of which no more than 1,024 count, a punctured one as 0. */
 static void compare(struct channel *c, const uint8_t *bits, const float *coded)
 {
     for (uint64_t i = 0; i < c->e; i++) {

@@ -22,8 +22,16 @@
  * - The pointers to single values at the end of a parameter list are answers: they must not be null and are always
  *   written, on a refusal with zeros; only UMV_CONTENT (12) gives in `at` the index of the first bad value, from 0.
  *
- * What a caller of release 3 has to change for release 4, which knows the 1.28 Mcps option; a sheet of 3.84 Mcps keeps its
- * bytes, its frames and its names:
+ * What a caller of release 4 finds otherwise in release 5, which clips joined values. No prototype, number or length changed:
+ *
+ * - A value that umv_take_back writes, that umv_heard answers, and a magnitude that umv_link answers, is at most
+ *   UMV_JOINED_MOST, 1,024, in magnitude: one beyond it becomes that bound, with its sign, after all copies were added. A value
+ *   heard once is clipped too. Values within the bound keep every bit. Whoever scales soft values so that sums of copies pass
+ *   1,024 scales them down, or has them clipped.
+ * - umv_gather and umv_finish move what they find, as before.
+ *
+ * A caller of release 3, which did not know the 1.28 Mcps option, finds besides; a sheet of 3.84 Mcps keeps its bytes, its frames
+ * and its names:
  *
  * - umv_name is asked with the sub-frame, in front of the slot: 1 where there is only one. A call as it was does not compile.
  * - The fields of a sheet are 549 numbers, where they were 548; an array of 548 is refused with 11.
@@ -64,7 +72,7 @@
 extern "C" {
 #endif
 
-#define UMV_RELEASE "4.0.0" /* of this header and its archive */
+#define UMV_RELEASE "5.0.0" /* of this header and its archive */
 
 /* The numbers a call answers, in the order in which they are asked. Each call below says which of them it can give. */
 enum umv_number {
@@ -245,12 +253,15 @@ uint32_t umv_part(const uint8_t *sheet, size_t sheet_len, uint32_t trch, uint64_
 
 /*
  * The calls below bring a received frame home. A soft value is a float from -65,536 to 65,536, both allowed; a NaN is not. Which
- * sign stands for which bit is the caller's affair: values are moved, added, and compared by magnitude.
+ * sign stands for which bit is the caller's affair: values are moved, added, clipped, and compared by magnitude.
  */
+
+/* A joined value is at most this in magnitude: umv_take_back, umv_heard and umv_link clip to it, from either side. */
+#define UMV_JOINED_MOST 1024
 
 /*
  * Gathers a received frame (steps 9 and 8 undone): its values as they stood before second interleaving, channel after
- * channel (umv_part says where each lies). Values are moved bit for bit.
+ * channel (umv_part says where each lies). Values are moved bit for bit, and not clipped.
  * frame         frame_len soft values, only read, in the frame's order; frame_len must be D
  * multiplexed   multiplexed_len floats, overwritten when the call is accepted; multiplexed_len must be D
  * at            answer: the values written, D; with 12 the index in frame of the first value out of range
@@ -261,8 +272,9 @@ uint32_t umv_gather(const uint8_t *sheet, size_t sheet_len, const float *frame, 
 
 /*
  * Takes a received frame back (steps 9 to 6 undone) into a buffer that gathers a TTI: of each channel the N values of this
- * frame's segment are written, and nothing else of the buffer. A bit sent once keeps its value bit for bit, copies are added in
- * the order in which they were sent, each sum rounded once, and a punctured bit gets +0.0.
+ * frame's segment are written, and nothing else of the buffer. Copies of a bit are added in the order in which they were sent,
+ * each sum rounded once; after the last addition a value beyond plus or minus UMV_JOINED_MOST becomes that bound, that of a bit
+ * sent once too. Within the bound the value of a bit sent once is kept bit for bit. A punctured bit gets +0.0.
  * frame_number  0 to 255: the number under which the frame was built
  * frame         frame_len soft values, only read, in the frame's order; frame_len must be D
  * joined        joined_len floats: channels in order, T_i values each in first-interleaved order, which is segment 0 of N
@@ -276,7 +288,7 @@ uint32_t umv_take_back(const uint8_t *sheet, size_t sheet_len, uint32_t frame_nu
 
 /*
  * Finishes one channel (steps 2 and 1 undone) once all of its F frames were taken back: its E values in the coder's order,
- * fillers dropped. Values are moved bit for bit and not looked at.
+ * fillers dropped. Values are moved bit for bit, not looked at and not clipped.
  * trch          the channel, counted from 1, at most I
  * joined        joined_len floats, only read: the buffer of umv_take_back; joined_len must be the sum of all T_i
  * coded         coded_len floats, overwritten when the call is accepted; coded_len must be E of the channel
@@ -293,7 +305,8 @@ uint32_t umv_finish(const uint8_t *sheet, size_t sheet_len, uint32_t trch, const
  *               n = frame_number mod F it is bit m * F + P(n) + 1 of the TTI, P being 0 for F = 1; 0,1 for F = 2;
  *               0,2,1,3 for F = 4; 0,4,2,6,1,5,3,7 for F = 8
  * at            answer: 0; with 12 the index in frame of the first value out of range
- * value         answer: the value, the joined value of several copies, or +0.0 where nothing was heard
+ * value         answer: the value, or the joined value of several copies, clipped as umv_take_back does; +0.0 where nothing
+ *               was heard
  * copies        answer: how many copies were sent; 0 says that the bit was punctured
  * The other parameters are those of umv_take_back.
  * Numbers: the sheet's own; then 9; then 10 if there is no such channel or bit; then 11, 12.
@@ -305,7 +318,8 @@ uint32_t umv_heard(const uint8_t *sheet, size_t sheet_len, uint32_t frame_number
  * A channel's link record for one received frame.
  * trch          the channel, counted from 1, at most I
  * at            answer: 0; with 12 the index in frame of the first value out of range
- * least         answer: the least magnitude among the channel's joined values; +0.0 if no bit was heard
+ * least         answer: the least magnitude among the channel's joined values, which are clipped as umv_take_back does; +0.0
+ *               if no bit was heard
  * greatest      answer: the greatest magnitude; +0.0 if no bit was heard
  * punctured     answer: how many of the segment's N bits were punctured, fillers among them
  * The other parameters are those of umv_take_back.

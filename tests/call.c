@@ -150,6 +150,11 @@ bool takes(const struct call *call, char parameter)
     return strchr(call->parameters, parameter) != NULL;
 }
 
+bool joins(const struct call *call)
+{
+    return takes(call, 'n') && takes(call, 's');
+}
+
 struct answer unwritten(void)
 {
     struct answer answer;

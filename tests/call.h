@@ -68,6 +68,9 @@ char slice_of(const struct call *call, size_t slice);
 /* Whether the call has a parameter of this letter. */
 bool takes(const struct call *call, char parameter);
 
+/* Whether the call joins the values of a received frame: which copies are of one bit hangs on the frame number. */
+bool joins(const struct call *call);
+
 /* Every byte UNWRITTEN_BYTE. */
 struct answer unwritten(void);
 

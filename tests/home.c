@@ -1,8 +1,9 @@
 /*
  * home [SEED [SHEETS]]: there and back over whole TTIs, through the library alone. On random sheets it builds eight frames
  * that follow one another, sends each bit as +1 for 0 and -1 for 1, takes every frame back into one buffer and finishes
- * every channel. Each value must be plus or minus the number of places that umv_name gives to its bit, and +0.0 where there
- * is none. What was heard of some bits and each link record must say the same. The same seed makes the same sheets.
+ * every channel. Each value must be plus or minus the number of places that umv_name gives to its bit, or 1,024 where there are
+ * more, and +0.0 where there is none. What was heard of some bits and each link record must say the same. The same seed makes the
+ * same sheets.
  */
 #include <stdio.h>
 #include <stdlib.h>
@@ -18,12 +19,14 @@ enum {
     FRAMES = 8,   /* of the longest TTI */
     CHANNELS = SMALL_CHANNELS,
     MOST_E = SMALL_E,
-    MOST_T = SMALL_E, /* 8 divides it: fillers never pass it */
-    MOST_PLACES = SMALL_PLACES,
+    MOST_T = SMALL_E,   /* 8 divides it: fillers never pass it */
+    BOUND = 1024,       /* values are clipped to it */
+    MANY_PLACES = 2100, /* of a sub-frame, in which a bit or two may have more copies than that */
+    MOST_PLACES = 2 * MANY_PLACES,
     ASKED = 4 /* bits asked for in each segment */
 };
 
-static unsigned long values, punctured, once, joined_values, heard, links;
+static unsigned long values, punctured, once, joined_values, clipped[2], heard, links; /* clipped above and below */
 
 /* ---- The sheet at work ---- */
 
@@ -80,11 +83,21 @@ static bool read_channels(void)
     return CHECK(in_contents == sizes.contents && in_joined == sizes.joined);
 }
 
+/* One channel of a bit or two, which many places hold. */
+static void draw_few_bits(void)
+{
+    fields[UMV_FIELD_CHANNELS] = fields[UMV_FIELD_SLOTS] = fields[UMV_FIELD_PHCHS] = 1;
+    fields[UMV_FIELD_E] = (uint16_t)between(1, 2);
+    fields[UMV_FIELD_CAPACITIES] = (uint16_t)between(BOUND - 2, MANY_PLACES);
+}
+
 /* Whether the library takes it. */
 static bool random_sheet(void)
 {
     uint64_t length;
     draw_small(fields);
+    if (one_in(20))
+        draw_few_bits();
     if (!CHECK(umv_sheet_length(fields, UMV_FIELDS, &length) == UMV_OK && length <= UMV_SHEET_MOST))
         return false;
     sheet_len = length;
@@ -135,11 +148,22 @@ static bool same(float a, float b)
     return memcmp(&a, &b, sizeof a) == 0;
 }
 
-/* What comes home of a bit, from 0 and before first interleaving, that `copies` places held. */
+/* The magnitude of a bit that `copies` places held. */
+static float loudness(uint32_t copies)
+{
+    return copies < BOUND ? (float)copies : (float)BOUND;
+}
+
+/* Whether a bit, from 0 and before first interleaving, was sent as -1; a filler is 0. */
+static bool is_one(const struct channel *c, uint64_t bit)
+{
+    return bit < c->e && contents[c->in_contents + bit] == 1;
+}
+
+/* What comes home of a bit that `copies` places held. */
 static float home_of(const struct channel *c, uint64_t bit, uint32_t copies)
 {
-    bool one = bit < c->e && contents[c->in_contents + bit] == 1; /* a filler is 0 */
-    return one && copies != 0 ? -(float)copies : (float)copies;
+    return is_one(c, bit) && copies != 0 ? -loudness(copies) : loudness(copies);
 }
 
 /* The column, before first interleaving, of the segment of frame n. */
@@ -179,7 +203,7 @@ static void ask_link(uint32_t frame_number, uint32_t i)
     }
     CHECK(umv_link(sheet, sheet_len, frame_number, soft, sizes.capacity, i + 1, &at, &least, &greatest, &missing) == UMV_OK);
     CHECK(at == 0 && missing == none);
-    CHECK(same(least, (float)few) && same(greatest, (float)many));
+    CHECK(same(least, loudness(few)) && same(greatest, loudness(many)));
     links++;
 }
 
@@ -224,6 +248,7 @@ static void finish(uint32_t i)
         punctured += copies == 0;
         once += copies == 1;
         joined_values += copies > 1;
+        clipped[is_one(c, bit)] += copies > BOUND;
     }
 }
 
@@ -247,7 +272,8 @@ static void there_and_back(void)
 /* How many kinds of sheet or of bit were never met. */
 static unsigned not_met(void)
 {
-    unsigned missing = (met_empty == 0) + (punctured == 0) + (once == 0) + (joined_values == 0);
+    unsigned missing = (met_empty == 0) + (punctured == 0) + (once == 0) + (joined_values == 0) + (clipped[0] == 0) +
+                       (clipped[1] == 0);
     for (int i = 0; i < 4; i++)
         missing += met_tti[i] == 0;
     for (int i = 0; i < CHANNELS; i++)
@@ -271,8 +297,9 @@ int main(int argc, char **argv)
         if (random_sheet() && read_channels())
             there_and_back();
     }
-    printf("home: %lu values checked: %lu punctured, %lu sent once, %lu joined; %lu bits asked for, %lu link records\n",
-           values, punctured, once, joined_values, heard, links);
+    printf("home: %lu values checked: %lu punctured, %lu sent once, %lu joined, of which %lu and %lu clipped; %lu bits asked for, "
+           "%lu link records\n",
+           values, punctured, once, joined_values, clipped[0], clipped[1], heard, links);
     printf("home: %u kinds not met\n", not_met());
     return report("home") != 0 || not_met() != 0;
 }

@@ -61,6 +61,7 @@ share/doc/ummervia/examples/Makefile
 share/doc/ummervia/examples/example.sheet
 share/doc/ummervia/examples/gateway.sheet
 share/doc/ummervia/examples/lcr.sheet
+share/doc/ummervia/examples/levels.c
 share/doc/ummervia/examples/picture.sheet
 share/doc/ummervia/examples/roundtrip.c
 share/doc/ummervia/examples/sizes.c
@@ -135,6 +136,13 @@ contents: 6 bytes, one a bit; received: 6 floats
 channel 1: 6 encoded bits in 1 frame(s), 6 of them in each frame, sent as 8
     each bit is sent 1 or 2 times
 status 0" "$(told "${run[@]}" "$room/examples/sizes" "$room/sheet")"
+
+# The same 8 places, at a level each: bits 1 and 4 are added up, and clipped beyond 1,024.
+levels() { same "levels $1" "$2" "$(told "${run[@]}" "$room/examples/levels" "$1" "$room/sheet")"; }
+levels 500 $'channel 1: 6 bits, 0 punctured, magnitudes 500 to 1000, 0 at the bound\nstatus 0'
+levels -600 $'channel 1: 6 bits, 0 punctured, magnitudes 600 to 1024, 2 at the bound\nstatus 0'
+levels 1024.5 $'channel 1: 6 bits, 0 punctured, magnitudes 1024 to 1024, 6 at the bound\nstatus 0'
+levels 65537 $'refused, 12: a soft value is from -65,536 to 65,536\nstatus 1'
 
 # A sheet of 16 channels: its weights RM x N are 4 x (190 x 152 + 180 x 167 + 230 x 68), 150 x 500, 160 x 528, 140 x 525, 0, in sum
 # 531,300; D is 2,928. Channel 13 has Z from 2,928 x 298,320 / 531,300 = 1,644 to 2,928 x 373,320 / 531,300 = 2,057, and the last is empty.

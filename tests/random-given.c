@@ -131,18 +131,47 @@ static float float_of(uint32_t bits)
     return value;
 }
 
+static float with_sign(float value)
+{
+    return one_in(2) ? value : -value;
+}
+
+/* Around the bound that joined values are clipped to. */
+static float draw_near(void)
+{
+    static const float near[] = {1024.0f, 0x1.000002p10f, 0x1.fffffep9f, 1024.5f, 1023.9f, 1025.0f, 65536.0f, 0.0f};
+    return with_sign(near[between(0, sizeof near / sizeof *near - 1)]);
+}
+
+/* Sums of these pass the bound and come back. */
+static float draw_swing(void)
+{
+    return with_sign((float)between(400, 1600));
+}
+
 static float draw_soft(void)
 {
     switch (between(1, 8)) {
     case 1:
         return float_of((uint32_t)one_in(2) << 31); /* +0.0 or -0.0 */
     case 2:
-        return one_in(2) ? 65536.0f : -65536.0f;
+        return with_sign(65536.0f);
     case 3:
         return float_of(((uint32_t)one_in(2) << 31) + between(0, 0x47800000u)); /* any within the bounds */
+    case 4:
+        return draw_near();
     default:
         return (float)((int32_t)between(0, 510) - 255);
     }
+}
+
+/* Half of the frames have values of all kinds, the others of one that comes to the bound and over it. */
+static void draw_frame(float *values, size_t count)
+{
+    static float (*const draws[])(void) = {draw_soft, draw_soft, draw_near, draw_swing};
+    float (*const draw)(void) = draws[between(0, 3)];
+    for (size_t i = 0; i < count; i++)
+        values[i] = draw();
 }
 
 /* Now and then one or more values are bad. */
@@ -201,8 +230,7 @@ static size_t draw_slice(char parameter, char length, void *room)
         draw_bits(room, count);
         damage(parameter, room, count);
     } else if (parameter == 's' && length == 'D') { /* joined values are not looked at */
-        for (size_t i = 0; i < count; i++)
-            ((float *)room)[i] = draw_soft();
+        draw_frame(room, count);
         damage(parameter, room, count);
     }
     return count;

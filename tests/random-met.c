@@ -43,6 +43,7 @@ static struct {
     unsigned long greatest[MOST_WHOLE + 1];     /* 2^32 - 1 that drew 9 or 10; last, 2^64 - 1 that drew 11 */
     unsigned long uplink[UPLINKS];              /* what has to do with number 13 */
     unsigned long lcr[LCRS];                    /* what has to do with number 14, and with sub-frames */
+    unsigned long clips[CLIPS];                 /* what has to do with clipping */
 } met[CALLS];
 
 /* ---- Counting ---- */
@@ -205,6 +206,9 @@ void count_call(size_t call, const struct given *given, const struct answer *ans
     uint64_t kinds = kinds_of(&calls[call], given, answer);
     for (int kind = 0; kind < KINDS; kind++)
         met[call].kinds[kind] += kinds >> kind & 1;
+    uint32_t clips = clips_of(&calls[call], given);
+    for (int clip = 0; clip < CLIPS; clip++)
+        met[call].clips[clip] += clips >> clip & 1;
 }
 
 void count_place(size_t call, size_t slice, const void *start)
@@ -254,6 +258,11 @@ static unsigned print_lcr(size_t call, size_t column)
 static unsigned print_uplink(size_t call, size_t column)
 {
     return print_count(column < TOO_LONG || takes(&calls[call], 'f'), met[call].uplink[column]);
+}
+
+static unsigned print_clip(size_t call, size_t column)
+{
+    return print_count(can_meet(&calls[call], (enum clip)column), met[call].clips[column]);
 }
 
 /* How often a slice was empty, and how often it lay at the rarest of the offsets that its type allows. */
@@ -337,6 +346,8 @@ unsigned report_met(void)
     static const char *const uplinks[] = {"codes", "log", "13, 6", "13, 7", "13, 8", "5, 13", "log>7", "unseen"};
     static const char *const lcrs[] = {"14, 6", "14, 7", "14, 8", "5, 14", "13, 14", "both", "over 1",
                                        "second", "0th",  "no 2nd", "no 3rd"};
+    static const char *const clips[] = {"once >", "once <", "sum >", "sum <",  "back >",
+                                        "back <", "1,024",  "-1,024", "-0.0", "beyond"};
     unsigned missing = print_table("Numbers answered", numbers, NUMBERS, print_number);
     missing += report_kinds();
     missing += print_table("Refused with 13 for many codes alone, for a logarithm alone, where 6, 7 or 8 holds too; with 5\n"
@@ -345,6 +356,9 @@ unsigned report_met(void)
     missing += print_table("Refused with 14 where 6, 7 or 8 holds too, with 5 and 13 where 14 does; with 7 for both sub-frames\n"
                            "together; of fields, 4 for the 1.28 Mcps field; of names, sub-frame 2, and 10 for sub-frame 0, 2 and 3",
                            lcrs, LCRS, print_lcr);
+    missing += print_table("Accepted: values heard once, over 1,024 and under -1,024; sums; sums that came back, which clipped at each\n"
+                           "addition would give another answer; values just there; -0.0; values beyond, moved or left as they were",
+                           clips, CLIPS, print_clip);
     missing += print_table("Slices that were empty, each lent with a valid, a null and another pointer; slices at the rarest\n"
                            "offset that their type allows; numbers of 2^32 - 1 and lengths of 2^64 - 1 that drew a refusal",
                            parameters, sizeof parameters / sizeof *parameters, print_parameter);

@@ -62,11 +62,32 @@ _Static_assert(KINDS <= 64, "a kind is a bit of 64");
 
 extern struct drawn drawn;
 
+/* What an accepted call met of clipping; values of bits, before it, and one that is not clipped. */
+enum clip {
+    ONCE_ABOVE, /* heard once, over 1,024 */
+    ONCE_BELOW, /* under -1,024 */
+    SUM_ABOVE,  /* the sum of several copies */
+    SUM_BELOW,
+    BACK_ABOVE, /* a sum that passed 1,024 and came back: clipped at each addition, the answer would be another */
+    BACK_BELOW,
+    AT_ABOVE, /* just 1,024 */
+    AT_BELOW,
+    MINUS_ZERO,
+    BEYOND, /* moved, or left as it was, beyond the bound */
+    CLIPS
+};
+
 /* Draws a sheet, good or damaged. */
 void draw_sheet(void);
 
 /* Draws what the call with this index is given on that sheet, good or damaged. The slices stay until the next one is drawn. */
 void draw_given(size_t call, struct given *given);
+
+/* What the accepted call met of clipping, a bit each. */
+uint32_t clips_of(const struct call *call, const struct given *given);
+
+/* Whether such a call can meet it. */
+bool can_meet(const struct call *call, enum clip clip);
 
 /* Counts a call that was as the reference has it. */
 void count_call(size_t call, const struct given *given, const struct answer *answer);

@@ -73,10 +73,18 @@ static void gather(const struct form *form, const float *frame, float *multiplex
         deinterleave(interleaved, form->D, multiplexed);
 }
 
+static const float bound = 1024.0f; /* of a joined value: what a decoder takes */
+
+/* A value within the bound is kept bit for bit. */
+static float clip(float value)
+{
+    return value > bound ? bound : value < -bound ? -bound : value;
+}
+
 /*
  * Step 6 undone: of the V values of the channel's part, `values` gets the joined value of each of the N bits of its
- * segment, `copies` how many there are of it. A sum starts from copy 0, so that a value heard alone is kept bit for
- * bit.
+ * segment, `copies` how many there are of it. A sum starts from copy 0, so that of a value heard alone no bit changes
+ * by adding, and is clipped after the last copy, so that on the way it may pass the bound and come back.
  */
 static void join(const struct channel *c, uint32_t n, const float *part, float *values, uint32_t *copies)
 {
@@ -90,12 +98,13 @@ static void join(const struct channel *c, uint32_t n, const float *part, float *
             e += growth;
             continue;
         }
-        values[m] = *part++;
+        float sum = *part++;
         copies[m] = 1;
         for (; e <= 0; e += growth) {
-            values[m] += *part++;
+            sum += *part++;
             copies[m]++;
         }
+        values[m] = clip(sum);
     }
 }
 

@@ -1,4 +1,8 @@
-/* values: what document 01 prints of frames, asked of the calls: the example, one bit sent 60,000 times, frame 255 and 256. */
+/*
+ * values: what documents 01 and 02 print of frames, asked of the calls: the example, frame 255 and 256, one bit sent 60,000 times,
+ * and what comes home of a bit that was sent about as often as a joined value may count.
+ */
+#include <math.h>
 #include <string.h>
 
 #include "check.h"
@@ -42,44 +46,78 @@ static const struct shape {
     uint16_t lcr, slots, places;
 } shapes[] = {{0, 15, 250}, {1, 5, 375}};
 
-/* One channel of one bit. */
-static size_t make_repeated(const struct shape *shape, uint8_t *sheet)
+static uint8_t sheet[UMV_SHEET_MOST];
+static size_t sheet_len;
+static float soft[MOST];
+
+/* A sheet of these slots with one channel of one bit. */
+static void make_sheet(uint16_t *fields)
 {
-    uint16_t fields[UMV_FIELDS] = {[UMV_FIELD_VERSION] = 1, [UMV_FIELD_CHANNELS] = 1, [UMV_FIELD_E] = 1, [UMV_FIELD_RM] = 1};
     uint64_t length = 0, at;
-    fields[UMV_FIELD_LCR] = shape->lcr;
-    fill_slots(fields, shape->slots, shape->places);
+    fields[UMV_FIELD_VERSION] = fields[UMV_FIELD_CHANNELS] = fields[UMV_FIELD_E] = fields[UMV_FIELD_RM] = 1;
     CHECK(umv_sheet_length(fields, UMV_FIELDS, &length) == UMV_OK);
     CHECK(umv_sheet_write(fields, UMV_FIELDS, sheet, length, &at) == UMV_OK);
-    return length;
+    sheet_len = length;
 }
 
-/* "N=1, d=59,999: the one bit is sent 60,000 times"; of whole values of 255 the sum is exact. */
+/* That bit comes home as this value from the first `places` soft values. */
+static void check_home(size_t places, float expected)
+{
+    uint64_t at, copies, punctured;
+    float value, joined, least, greatest;
+    CHECK(umv_heard(sheet, sheet_len, 255, soft, places, 1, 1, &at, &value, &copies) == UMV_OK);
+    CHECK(value == expected && copies == places);
+    CHECK(umv_take_back(sheet, sheet_len, 255, soft, places, &joined, 1, &at) == UMV_OK && at == 1 && joined == expected);
+    CHECK(umv_link(sheet, sheet_len, 255, soft, places, 1, &at, &least, &greatest, &punctured) == UMV_OK);
+    CHECK(least == fabsf(expected) && greatest == fabsf(expected) && punctured == 0);
+}
+
+/* The same from this value at each of so many places. */
+static void check_even(size_t places, float at_each, float expected)
+{
+    for (size_t i = 0; i < places; i++)
+        soft[i] = at_each;
+    check_home(places, expected);
+}
+
+/* "N=1, d=59,999: the one bit is sent 60,000 times." Sums of whole values, and of 64ths, are exact; after the last addition they are
+   clipped. */
 static void test_repeated(const struct shape *shape)
 {
-    static uint8_t sheet[UMV_SHEET_MOST], frame[MOST], named[MOST];
-    static float soft[MOST];
+    static uint8_t frame[MOST], named[MOST];
     const uint8_t contents[] = {1};
     const uint32_t U = shape->places, T = shape->slots;
-    size_t length = make_repeated(shape, sheet), ones = 0;
-    uint64_t at, trch, bit, copy, copies, punctured;
+    uint16_t fields[UMV_FIELDS] = {[UMV_FIELD_LCR] = shape->lcr};
+    size_t ones = 0;
+    uint64_t at, trch, bit, copy;
+    fill_slots(fields, shape->slots, shape->places);
+    make_sheet(fields);
     memset(named, 0, sizeof named);
-    float value, joined, least, greatest;
-    CHECK(umv_build(sheet, length, 255, contents, 1, frame, MOST, &at) == UMV_OK && at == MOST);
+    CHECK(umv_build(sheet, sheet_len, 255, contents, 1, frame, MOST, &at) == UMV_OK && at == MOST);
     for (size_t i = 0; i < MOST; i++)
         ones += frame[i];
     CHECK(ones == MOST);
     for (uint32_t i = 0; i < MOST; i++) {
-        CHECK(umv_name(sheet, length, 255, i / (T * 16 * U) + 1, i / (16 * U) % T + 1, i / U % 16 + 1, i % U + 1, &trch, &bit,
+        CHECK(umv_name(sheet, sheet_len, 255, i / (T * 16 * U) + 1, i / (16 * U) % T + 1, i / U % 16 + 1, i % U + 1, &trch, &bit,
                        &copy) == UMV_OK);
         CHECK(trch == 1 && bit == 1 && copy < MOST && named[copy]++ == 0);
-        soft[i] = 255.0f;
+        soft[i] = copy < MOST / 2 ? 255.0f : copy < MOST - 1 ? -255.0f : -254.0f;
     }
-    CHECK(umv_heard(sheet, length, 255, soft, MOST, 1, 1, &at, &value, &copies) == UMV_OK);
-    CHECK(value == 15300000.0f && copies == MOST);
-    CHECK(umv_take_back(sheet, length, 255, soft, MOST, &joined, 1, &at) == UMV_OK && at == 1 && joined == value);
-    CHECK(umv_link(sheet, length, 255, soft, MOST, 1, &at, &least, &greatest, &punctured) == UMV_OK);
-    CHECK(least == value && greatest == value && punctured == 0);
+    check_home(MOST, 1.0f); /* on the way it is 7,650,000 */
+    check_even(MOST, 1.0f / 64, 937.5f);
+    check_even(MOST, 255.0f, 1024.0f);
+    check_even(MOST, 1.0f, 1024.0f);
+    check_even(MOST, -1.0f, -1024.0f);
+}
+
+/* "The way home gives plus or minus the lesser of copies and 1,024." */
+static void test_copies(uint16_t places)
+{
+    uint16_t fields[UMV_FIELDS] = {[UMV_FIELD_SLOTS] = 1, [UMV_FIELD_PHCHS] = 1, [UMV_FIELD_CAPACITIES] = places};
+    float lesser = places < 1024 ? places : 1024.0f;
+    make_sheet(fields);
+    check_even(places, 1.0f, lesser);
+    check_even(places, -1.0f, -lesser);
 }
 
 int main(void)
@@ -88,5 +126,9 @@ int main(void)
     test_frame_numbers();
     test_repeated(&shapes[0]);
     test_repeated(&shapes[1]);
+    for (uint16_t places = 1022; places <= 1026; places++)
+        test_copies(places);
+    test_copies(1);
+    test_copies(4095);
     return report("values");
 }

@@ -1,12 +1,14 @@
 /*
- * vectors IMPLEMENTATION FILE: runs each line `CALL ARGUMENTS => ANSWER` of FILE on the library or the reference (see
- * implementation.h) and compares everything it answers. The reference has to know every call of the file.
+ * vectors IMPLEMENTATION FILE [unclipped]: runs each line `CALL ARGUMENTS => ANSWER` of FILE on the library or the reference
+ * (see implementation.h) and compares everything it answers. The reference has to know every call of the file. An `unclipped`
+ * file is of a release that did not clip: where it has a joined value beyond 1,024, that bound is expected.
  *
  * A byte slice is hex; 16-bit values are four digits each; a float is eight digits, its bit pattern; an empty slice is
  * `-`; numbers are decimal. A slice that the call writes stands among the arguments as it is before, and in the answer
  * as it is after the call. Empty lines and lines that begin with `#` say nothing.
  */
 #define _POSIX_C_SOURCE 200809L
+#include <math.h>
 #include <stdarg.h>
 #include <stdbool.h>
 #include <stdio.h>
@@ -36,12 +38,15 @@ struct line {
     unsigned long number;
     const char *call;
     char *rest; /* what of it is not yet read */
+    bool clips; /* what is expected has yet to be clipped */
     bool wrong;
     struct slice slices[MOST_SLICES];
     size_t slice_count;
 };
 
 static const struct implementation *tested;
+
+static bool unclipped;
 
 static unsigned long shown;
 
@@ -113,6 +118,28 @@ static unsigned char *next_values(struct line *line, size_t unit, size_t *count)
     return values;
 }
 
+/* All of a buffer: in no unclipped file does a lent one hold a value beyond the bound, so that none of those that stay is changed. */
+static void clip(unsigned char *values, size_t count)
+{
+    for (; count > 0; count--, values += sizeof(float)) {
+        float value;
+        memcpy(&value, values, sizeof value);
+        if (fabsf(value) > 1024.0f) { /* no NaN is */
+            value = copysignf(1024.0f, value);
+            memcpy(values, &value, sizeof value);
+        }
+    }
+}
+
+/* Reads the next word of the answer. */
+static unsigned char *next_expected(struct line *line, size_t unit, size_t *count)
+{
+    unsigned char *values = next_values(line, unit, count);
+    if (line->clips)
+        clip(values, *count);
+    return values;
+}
+
 static void next_arrow(struct line *line)
 {
     const char *word = next_word(line);
@@ -151,7 +178,7 @@ static void expect(struct line *line, const char *what, uint64_t got)
 static void expect_float(struct line *line, const char *what, float got)
 {
     size_t count;
-    unsigned char *expected = next_values(line, sizeof got, &count);
+    unsigned char *expected = next_expected(line, sizeof got, &count);
     if (count != 1 || memcmp(expected, &got, sizeof got) != 0)
         wrong(line, "%s is %a, not what is expected", what, (double)got);
     free(expected);
@@ -161,7 +188,7 @@ static void expect_float(struct line *line, const char *what, float got)
 static void expect_written(struct line *line, struct slice *slice)
 {
     size_t count;
-    unsigned char *after = next_values(line, slice->unit, &count);
+    unsigned char *after = next_expected(line, slice->unit, &count);
     if (count == slice->count) {
         free(slice->expected);
         slice->expected = after;
@@ -214,6 +241,7 @@ static void run_call(struct line *line, const struct call *call)
     struct given given = {.length = 0};
     struct answer answer = unwritten();
     struct slice *written = read_given(line, call, &given);
+    line->clips = unclipped && joins(call);
     next_arrow(line);
     expect(line, "number", call->run(tested, &given, &answer));
     for (size_t i = 0; call->answers[i] != '\0'; i++)
@@ -303,10 +331,11 @@ static const struct implementation *implementation_named(const char *name)
 
 int main(int argc, char **argv)
 {
-    tested = argc == 3 ? implementation_named(argv[1]) : NULL;
-    FILE *file = argc == 3 ? fopen(argv[2], "r") : NULL;
-    if (tested == NULL || file == NULL) {
-        fputs("vectors: two arguments, library or reference and a vector file that can be opened\n", stderr);
+    unclipped = argc == 4 && strcmp(argv[3], "unclipped") == 0;
+    tested = argc == 3 || unclipped ? implementation_named(argv[1]) : NULL;
+    FILE *file = tested != NULL ? fopen(argv[2], "r") : NULL;
+    if (file == NULL) {
+        fputs("vectors: library or reference, a vector file that can be opened, and at most 'unclipped' behind it\n", stderr);
         return 2;
     }
     char *text = NULL;

@@ -1,8 +1,8 @@
--- S8 for one frame: whole sums are exact, no joined value is a NaN or infinite, and one is -0.0 only where all its copies are.
+-- S8 for one frame: whole sums are exact and clipped, no joined value is a NaN or beyond 1,024, and one is -0.0 only where all its copies are.
 use mathlib.Core.Path.{_≡_, sym, ap, _∙_, subst}
 use mathlib.Core.Bool.{Bool, true, false, false≢true}
 use mathlib.Core.List.{List, _∷_, map}
-use Prim.Native.Nat.{ℕ, zero, suc, _*_, _≤_, _<_}
+use Prim.Native.Nat.{ℕ, zero, suc, _≤_, _<_}
 use native.Mathlib.Omega.{arith}
 use lib.Ieee.{Float, nan, binary32, fits, isNan}
 use lib.ListN.{length, getD, take, drop, length-map, getD-replicate}
@@ -23,8 +23,8 @@ use Rattle.frame.specs.Frame.{startAt}
 use Rattle.frame.proofs.FrameLaws.{rates}
 use Rattle.naming.specs.Name.{Name, labelFrame, bitName}
 use Rattle.joining.specs.Joining.{plusZero, joinOf, valueOf, homeOf}
-use Rattle.joining.specs.Range.{inRange}
-use Rattle.joining.specs.Whole.{Whole, smallWhole, wholeOf, total, Under}
+use Rattle.joining.specs.Whole.{Whole, smallWhole, wholeOf, total, bound, bounded, Under}
+use Rattle.joining.proofs.MadeLaws.{join-none}
 use Rattle.joining.proofs.ValueLaws.{home-exact, home-under, under-number}
 use Rattle.joining.proofs.ZeroLaws.{minusZero, join-minus}
 use Rattle.homing.specs.Home.{heardIn, segmentHome}
@@ -39,8 +39,8 @@ zeros-apart q = let z : _≡_ {A = Bool} false true = cc in false≢true z
 
 minus-copies : (g : ℕ → Float) (n : ℕ) → NoneFails (fits binary32) (table g 0 n) → valueOf (joinOf (table g 0 n)) ≡ minusZero
     → (0 < n) × ((c : ℕ) → c < n → g c ≡ minusZero)
-unfolding table joinOf valueOf
-minus-copies g zero a q = absurd (zeros-apart q)
+unfolding table
+minus-copies g zero a q = absurd (zeros-apart (sym join-none ∙ q))
 minus-copies g (suc n) a q =
     let all = join-minus (g 0) (table g 1 n) a q in
     let long = length (g 0 ∷ table g 1 n) in
@@ -56,19 +56,13 @@ module _ (sh : Sheet) (ok : Accepted sh) (number i m : ℕ) (l : i < sh .channel
   few : (frame : List Float) → length (heardIn sh i frame) ≤ mostBits
   few frame = omega (arith, length-heard-in sh ok i l frame, shares-most sh ok i l)
 
-  -- of soft values from -65,536 to 65,536 each joined value is finite: at most 65,536 for each value heard of the channel in magnitude
-  pub home-finite : (frame : List Float) (d : Float) → length frame ≡ capacityAll sh → NoneFails inRange frame
-      → Under (getD (segmentHome sh number i frame) m d) (shareOf sh i * 65536)
+  -- each joined value is finite, and at most 1,024 in magnitude
+  pub home-bounded : (frame : List Float) (d : Float) → Under (getD (segmentHome sh number i frame) m d) bound
   unfolding segmentHome
-  home-finite frame d full r =
-      subst (λ (n : ℕ). Under (getD (homeOf (changeOf sh i) (sizeOf sh i) (startAt sh number i) (heardIn sh i frame)) m d) (n * 65536))
-      (length-heard-in sh ok i l frame)
-      (home-under (changeOf sh i) (sizeOf sh i) (startAt sh number i) m (heardIn sh i frame) d (heard-passes sh ok i l frame inRange full r)
-      (few frame) h)
+  home-bounded frame d = home-under (changeOf sh i) (sizeOf sh i) (startAt sh number i) m (heardIn sh i frame) d h
 
-  pub home-number : (frame : List Float) (d : Float) → length frame ≡ capacityAll sh → NoneFails inRange frame
-      → isNan (getD (segmentHome sh number i frame) m d) ≡ false
-  home-number frame d full r = under-number (getD (segmentHome sh number i frame) m d) (shareOf sh i * 65536) (home-finite frame d full r)
+  pub home-number : (frame : List Float) (d : Float) → isNan (getD (segmentHome sh number i frame) m d) ≡ false
+  home-number frame d = under-number (getD (segmentHome sh number i frame) m d) bound (home-bounded frame d)
 
   module _ (f : Name → Float) where
     abbrev received : List Float
@@ -77,14 +71,14 @@ module _ (sh : Sheet) (ok : Accepted sh) (number i m : ℕ) (l : i < sh .channel
     length-received : length received ≡ capacityAll sh
     length-received = length-map (labelFrame sh number) f ∙ length-labels sh ok number
 
-    -- "If all soft values of a frame are whole and at most 255 in magnitude, every sum is the exact whole sum"
+    -- "If all soft values of a frame are whole and at most 255 in magnitude, every sum is the exact whole sum", clipped
     pub home-whole : (d : Float) → NoneFails smallWhole (map f (labelFrame sh number))
         → Whole (getD (segmentHome sh number i (map f (labelFrame sh number))) m d)
-        (total (map wholeOf (table (λ c. f (bitName sh number i m c)) 0 (copiesOf (changeOf sh i) (sizeOf sh i) (startAt sh number i) m))))
+        (bounded (total (map wholeOf (table (λ c. f (bitName sh number i m c)) 0 (copiesOf (changeOf sh i) (sizeOf sh i) (startAt sh number i) m)))))
     unfolding segmentHome
     home-whole d w =
         let home = homeOf (changeOf sh i) (sizeOf sh i) (startAt sh number i) (heardIn sh i received) in
-        subst (λ (s : List Float). Whole (getD home m d) (total (map wholeOf s)))
+        subst (λ (s : List Float). Whole (getD home m d) (bounded (total (map wholeOf s))))
         (shares-named sh ok number f i m l h)
         (home-exact (changeOf sh i) (sizeOf sh i) (startAt sh number i) m (heardIn sh i received) d
         (heard-passes sh ok i l received smallWhole length-received w) (few received) h)

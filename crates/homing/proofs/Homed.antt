@@ -25,8 +25,8 @@ use Rattle.frame.specs.Frame.{startAt, sentOf, multiplexed, frameOf}
 use Rattle.frame.proofs.FrameLaws.{partOf, turn-inside, sent-matched, length-part, length-sent, channels-begin, length-multiplexed, frame-map}
 use Rattle.naming.specs.Name.{Name, Label, labelAt, labels, copyNamed, labelFrame, bitNumber, bitName}
 use Rattle.naming.proofs.Named.{labels-full}
-use Rattle.joining.specs.Joining.{plusZero, joinOf, valueOf}
-use Rattle.joining.proofs.MadeLaws.{join-value}
+use Rattle.joining.specs.Joining.{clipped, plusZero, joinOf, valueOf}
+use Rattle.joining.proofs.MadeLaws.{join-none, join-value}
 use Rattle.joining.proofs.HomeLaws.{home-shared}
 use Rattle.homing.specs.Home.{heardIn, segmentHome, segmentStart, takenBack, heardAt}
 use Rattle.homing.proofs.GatherLaws.{gathered-spread}
@@ -108,9 +108,9 @@ module _ (sh : Sheet) (ok : Accepted sh) (number : ℕ) (f : Name → Float) whe
         home-shared (changeOf sh i) (sizeOf sh i) (startAt sh number i) m (heardIn sh i (map f (labelFrame sh number))) d h
         ∙ ap (λ (s : List Float). valueOf (joinOf s)) shares-named
 
-    -- "A bit sent once keeps its value bit for bit."
+    -- "a value heard once is clipped too"; within the bound it keeps every bit (joining ClipLaws)
     pub home-once : (d : Float) → copiesOf (changeOf sh i) (sizeOf sh i) (startAt sh number i) m ≡ 1
-        → getD (segmentHome sh number i (map f (labelFrame sh number))) m d ≡ f (bitName sh number i m 0)
+        → getD (segmentHome sh number i (map f (labelFrame sh number))) m d ≡ clipped (f (bitName sh number i m 0))
     unfolding table
     home-once d q =
         home-named d
@@ -120,8 +120,8 @@ module _ (sh : Sheet) (ok : Accepted sh) (number : ℕ) (f : Name → Float) whe
     -- "A punctured bit gets +0.0."
     pub home-none : (d : Float) → copiesOf (changeOf sh i) (sizeOf sh i) (startAt sh number i) m ≡ 0
         → getD (segmentHome sh number i (map f (labelFrame sh number))) m d ≡ plusZero
-    unfolding table joinOf valueOf
-    home-none d q = home-named d ∙ ap (λ (n : ℕ). valueOf (joinOf (table (λ c. f (bitName sh number i m c)) 0 n))) q
+    unfolding table
+    home-none d q = home-named d ∙ ap (λ (n : ℕ). valueOf (joinOf (table (λ c. f (bitName sh number i m c)) 0 n))) q ∙ join-none
 
     -- in the buffer; Taken has the positions outside the frame's segments as they were
     pub taken-named : (old : List Float) (d : Float) → length old ≡ equalisedAll sh

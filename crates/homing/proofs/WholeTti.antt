@@ -1,18 +1,17 @@
--- S8 for a whole TTI: "Once each of the channel's F frames has been taken back into that buffer under the same sheet, bits sent as +1 for 0 and
--- -1 for 1 come home as plus or minus the number of copies, exactly, and as +0.0 where punctured."
+-- S8 for a whole TTI: "Once each of the channel's F frames has been taken back into that buffer under the same sheet", bits sent as +1 for 0 and
+-- -1 for 1 come home as "plus or minus the lesser of copies and 1,024", exactly, and as +0.0 where punctured.
 use mathlib.Core.Path.{_≡_, refl, sym, ap, ap₂, _∙_, subst}
 use mathlib.Core.Logic.{_↔_}
 use mathlib.Core.Bool.{true, false}
 use mathlib.Core.List.{List}
-use Prim.Native.Nat.{ℕ, zero, suc, _+_, _*_, _-_, _/_, _%_, _≤_, _<_}
+use Prim.Native.Nat.{ℕ, zero, suc, _+_, _*_, _/_, _%_, _≤_, _<_}
 use native.Mathlib.Nat.{mod-eq-of-lt, div-add-mod'}
 use native.Mathlib.Omega.{arith}
+use lib.IntN.{pos, negℤ}
 use lib.Ieee.{Float, nan, binary32, ofInt, round}
 use lib.Ieee.Back.{round-whole}
 use lib.ListN.{length, getD, take, drop}
 use lib.Seq.{getD-take, getD-drop}
-use Rattle.laws.proofs.TestLaws.{split}
-use Rattle.sheet.specs.Counts.{mostBits}
 use Rattle.sheet.specs.Fields.{ttiOf, encodedOf}
 use Rattle.sheet.specs.Sizes.{framesOf, sizeOf, equalisedOf, encodedAll, equalisedAll}
 use Rattle.sheet.specs.Range.{Accepted}
@@ -22,7 +21,6 @@ use Rattle.orders.proofs.OrderLaws.{frames-bounds, column-swaps}
 use Rattle.matching.specs.Shares.{shareOf, changeOf}
 use Rattle.offset.specs.Offset.{startOf}
 use Rattle.pattern.specs.Pattern.{asIs, matched, copiesOf, Rates}
-use Rattle.pattern.proofs.SourceLaws.{kept}
 use Rattle.interleaving.specs.First.{seat}
 use Rattle.interleaving.proofs.EqualisedLaws.{segments-hold, equalised-bit}
 use Rattle.interleaving.proofs.FirstLaws.{segment-at}
@@ -34,7 +32,8 @@ use Rattle.frame.proofs.ContentLaws.{length-contents, length-bits}
 use Rattle.naming.specs.Name.{bitNumber, NamedBy}
 use Rattle.naming.proofs.Nowhere.{named-iff}
 use Rattle.joining.specs.Joining.{plusZero, homeOf}
-use Rattle.joining.specs.Whole.{Whole, soft, counted}
+use Rattle.joining.specs.Whole.{Whole, bound, lesser, soft, counted}
+use Rattle.joining.proofs.ClipLaws.{lesser-most}
 use Rattle.joining.proofs.CopyLaws.{home-copies}
 use Rattle.homing.specs.Home.{heardIn, segmentHome, channelStart, finishedOf}
 use Rattle.homing.specs.Received.{segmentAt, takenAll, softFrame, Received, LastOf, copiesIn, signedCount}
@@ -44,15 +43,21 @@ use Rattle.homing.proofs.Kept.{segment-value, last-taken}
 -- ---- plus or minus a number of copies, as a float
 
 counted-none : (b : ℕ) → counted b 0 ≡ plusZero
-unfolding counted ofInt round
+unfolding lesser counted ofInt round
 counted-none zero = refl
 counted-none (suc b) = refl
 
-counted-whole : (b c : ℕ) → c ≤ mostBits → Whole (counted b c) (signedCount b c)
+whole-minus : (n : ℕ) → n ≤ bound → Whole (ofInt binary32 (negℤ (pos n))) (negℤ (pos n))
+unfolding ofInt
+whole-minus zero h = record { sign = false; size = 0; value = round-whole binary32 false 0 (omega arith); is = refl }
+whole-minus (suc n) h = record { sign = true; size = suc n; value = round-whole binary32 true (suc n) (omega arith); is = refl }
+
+counted-whole : (b c : ℕ) → Whole (counted b c) (signedCount b c)
 unfolding counted ofInt
-counted-whole zero c h = record { sign = false; size = c; value = round-whole binary32 false c (omega arith); is = refl }
-counted-whole (suc b) zero h = record { sign = false; size = 0; value = round-whole binary32 false 0 (omega arith); is = refl }
-counted-whole (suc b) (suc c) h = record { sign = true; size = suc c; value = round-whole binary32 true (suc c) (omega arith); is = refl }
+counted-whole zero c =
+    let n = lesser c bound in
+    record { sign = false; size = n; value = round-whole binary32 false n (omega (arith, lesser-most c bound)); is = refl }
+counted-whole (suc b) c = whole-minus (lesser c bound) (lesser-most c bound)
 
 -- ---- one frame of such bits
 
@@ -136,7 +141,7 @@ module _ (sh : Sheet) (ok : Accepted sh) (i : ℕ) (l : i < sh .channels) where
         ∙ ap (λ (k : ℕ). getD buffer k nan) q
         ∙ sym (segment-value sh i turn row buffer nan row-inside)
 
-    -- S8: plus the number of its copies for 0, minus it for 1, as the float of that whole number
+    -- S8: plus the lesser of the number of its copies and 1,024 for 0, minus it for 1, as the float of that whole number
     pub finished-counts : (coded : List ℕ) (buffer : List Float) (d : Float) → Received sh i coded buffer
         → getD (finishedOf sh i buffer) j d ≡ counted (getD coded j 0) (copiesIn sh i j)
     unfolding copiesIn
@@ -157,24 +162,11 @@ module _ (sh : Sheet) (ok : Accepted sh) (i : ℕ) (l : i < sh .channels) where
         ∙ ap₂ counted (ap (λ (x : ℕ). getD (bitsOf sh contents i) x 0) k ∙ bit)
         (ap (λ (s : ℕ). copiesOf (changeOf sh i) (sizeOf sh i) s row) (start-turn number turn e))
 
-    copies-few : copiesIn sh i j ≤ mostBits
-    unfolding copiesIn
-    copies-few =
-        let copies = copiesOf (changeOf sh i) (sizeOf sh i) (startAt sh turn i) row in
-        split copies 0 (λ le. omega arith)
-        (λ lt.
-        omega (
-          arith,
-          kept (changeOf sh i) (sizeOf sh i) (shareOf sh i) (startAt sh turn i) row (copies - 1) (rates sh ok turn i) row-inside (omega arith)
-              .within,
-          shares-most sh ok i l,
-        ))
-
     -- "exactly"
     pub finished-exact : (coded : List ℕ) (buffer : List Float) (d : Float) → Received sh i coded buffer
         → Whole (getD (finishedOf sh i buffer) j d) (signedCount (getD coded j 0) (copiesIn sh i j))
     finished-exact coded buffer d r =
-        rw (finished-counts coded buffer d r) (counted-whole (getD coded j 0) (copiesIn sh i j) copies-few)
+        rw (finished-counts coded buffer d r) (counted-whole (getD coded j 0) (copiesIn sh i j))
 
     -- "and as +0.0 where punctured"
     pub finished-punctured : (coded : List ℕ) (buffer : List Float) (d : Float) → Received sh i coded buffer → copiesIn sh i j ≡ 0

@@ -1,4 +1,4 @@
--- The joined value of copies in range is finite, and at most 65,536 for each copy in magnitude: it is never a NaN.
+-- The sum of copies in range is finite, and at most 65,536 for each copy in magnitude: what is clipped is never a NaN.
 use mathlib.Core.Path.{_≡_, refl, sym, ap, _∙_, subst}
 use mathlib.Core.Bool.{Bool, true, false, cond, _&&_, _||_, Bool·beq, true≢false}
 use mathlib.Core.List.{List, [], _∷_}
@@ -16,10 +16,9 @@ use lib.Ieee.Order.{round-mono}
 use Rattle.laws.specs.FirstFail.{NoneFails}
 use Rattle.laws.proofs.FirstFailLaws.{none-first, none-rest}
 use Rattle.sheet.specs.Counts.{mostBits}
-use Rattle.joining.specs.Joining.{sumOf, joinOf, valueOf}
+use Rattle.joining.specs.Joining.{sumOf}
 use Rattle.joining.specs.Range.{inRange}
 use Rattle.joining.specs.Whole.{Under}
-use Rattle.joining.proofs.MadeLaws.{join-value}
 
 -- ---- a rounded value by its sign
 
@@ -180,10 +179,8 @@ fold-under (x ∷ xs) a k u h l =
     subst (λ (n : ℕ). Under (sumOf (add binary32 a x) xs) (n * 65536)) e
     (fold-under xs (add binary32 a x) (k + 1) (add-under a x k 1 u r (omega arith)) (none-rest inRange x xs h) (omega arith))
 
-pub join-under : (xs : List Float) → NoneFails inRange xs → length xs ≤ mostBits → Under (valueOf (joinOf xs)) (length xs * 65536)
-unfolding joinOf valueOf
-join-under [] h l = omega arith
-join-under (x ∷ xs) h l =
+pub sum-finite : (x : Float) (xs : List Float) → NoneFails inRange (x ∷ xs) → length (x ∷ xs) ≤ mostBits
+    → Under (sumOf x xs) (length (x ∷ xs) * 65536)
+sum-finite x xs h l =
     let e : 1 + length xs ≡ suc (length xs) = omega arith in
-    let r = range-under x (none-first inRange x xs h) in
-    rw (join-value x xs, ← e) (fold-under xs x 1 r (none-rest inRange x xs h) (omega arith))
+    rw (← e) (fold-under xs x 1 (range-under x (none-first inRange x xs h)) (none-rest inRange x xs h) (omega arith))

@@ -4,7 +4,7 @@ use mathlib.Core.Bool.{Bool, true, false}
 use mathlib.Core.List.{List}
 use Prim.Native.Nat.{ℕ, zero, suc, _+_, _^_, _≤_, _<_}
 use native.Mathlib.Omega.{arith}
-use lib.IntN.{ℤ, pos}
+use lib.IntN.{ℤ, pos, negℤ}
 use lib.ListN.{length, getD}
 use lib.Ieee.{Float, fin, binary32, round, add, ofInt}
 use lib.Ieee.Back.{round-whole, whole-unique}
@@ -16,8 +16,9 @@ use Rattle.pattern.specs.Pattern.{matched, copiesOf, Rates}
 use Rattle.pattern.specs.Closed.{sentBefore}
 use Rattle.pattern.proofs.MatchedLaws.{sent-all, sent-more}
 use Rattle.pattern.proofs.SourceLaws.{sent-up}
-use Rattle.joining.specs.Joining.{sumOf, joinOf, valueOf, homeOf}
-use Rattle.joining.specs.Whole.{soft, counted}
+use Rattle.joining.specs.Joining.{sumOf, rawOf, clipped, clippedOf, joinOf, valueOf, homeOf}
+use Rattle.joining.specs.Whole.{bound, lesser, soft, counted}
+use Rattle.joining.proofs.ClipLaws.{clip-round, lesser-some}
 use Rattle.joining.proofs.MadeLaws.{join-value}
 use Rattle.joining.proofs.HomeLaws.{home-matched}
 use Rattle.joining.proofs.WholeLaws.{add-is, same-sum}
@@ -49,22 +50,27 @@ unfolding round
 one-round false = refl
 one-round true = refl
 
-ones : (s : Bool) (c : ℕ) → suc c ≤ mostBits → valueOf (joinOf (table (λ i. one s) 0 (suc c))) ≡ round binary32 s (suc c) 1
+ones : (s : Bool) (c : ℕ) → suc c ≤ mostBits → valueOf (joinOf (table (λ i. one s) 0 (suc c))) ≡ round binary32 s (lesser (suc c) bound) 1
 unfolding table
 ones s c h =
     let e : 1 + c ≡ suc c = omega arith in
     join-value (one s) (table (λ i. one s) 1 c)
-    ∙ ap (λ (v : Float). sumOf v (table (λ i. one s) 1 c)) (one-round s)
-    ∙ ones-from s 1 c 1 (omega arith)
-    ∙ ap (λ (k : ℕ). round binary32 s k 1) e
+    ∙ ap (λ (v : Float). clipped (sumOf v (table (λ i. one s) 1 c))) (one-round s)
+    ∙ ap clipped (ones-from s 1 c 1 (omega arith) ∙ ap (λ (k : ℕ). round binary32 s k 1) e)
+    ∙ clip-round s (suc c) (omega arith)
 
--- plus or minus the number of copies, and +0.0 of none
+minus-int : (n : ℕ) → 0 < n → round binary32 true n 1 ≡ ofInt binary32 (negℤ (pos n))
+unfolding ofInt
+minus-int zero h = absurd (omega arith)
+minus-int (suc n) h = refl
+
+-- plus or minus the lesser of the number of copies and 1,024, and +0.0 of none
 pub join-copies : (b c : ℕ) → c ≤ mostBits → valueOf (joinOf (table (λ j. soft b) 0 c)) ≡ counted b c
-unfolding table joinOf valueOf soft counted round ofInt
+unfolding table rawOf clippedOf joinOf valueOf soft lesser counted round ofInt
 join-copies zero zero h = refl
 join-copies (suc b) zero h = refl
 join-copies zero (suc c) h = ones false c h
-join-copies (suc b) (suc c) h = ones true c h
+join-copies (suc b) (suc c) h = ones true c h ∙ minus-int (lesser (suc c) bound) (lesser-some c)
 
 -- no bit has more copies than values were sent
 copies-few : (d : ℤ) (N W e j : ℕ) → Rates d N W e → j < N → copiesOf d N e j ≤ W

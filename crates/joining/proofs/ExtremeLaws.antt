@@ -3,25 +3,22 @@ use mathlib.Core.Path.{_≡_, refl, sym, _∙_}
 use mathlib.Core.Bool.{Bool, true, false, cond, false≢true}
 use mathlib.Core.List.{List, [], _∷_, foldl, map}
 use mathlib.Core.Logic.{_⊎_, inl, inr}
-use Prim.Native.Nat.{ℕ, zero, suc, _*_, _≤_, _<_}
+use Prim.Native.Nat.{ℕ, zero, suc, _*_, _<_}
 use native.Mathlib.Omega.{arith}
 use borrow.Author.Tests.{ltb-true, ltb-false, le-ltb}
 use lib.Dec.{ltb}
-use lib.IntN.{ℤ, natAbs}
-use lib.ListN.{length, take, drop, length-take, length-drop}
+use lib.IntN.{ℤ}
+use lib.ListN.{length}
 use lib.Ieee.{Float, nan, inf, fin, lt}
 use lib.Ieee.Positive.{num, den, den-pos, through}
 use Rattle.laws.specs.FirstFail.{firstFail, NoneFails}
-use Rattle.laws.proofs.FirstFailLaws.{none-first, none-rest, none-cons, none-take, none-drop}
-use Rattle.sheet.specs.Counts.{mostBits}
-use Rattle.pattern.specs.Pattern.{copiesAt, after, sharedFrom, negative, shared}
+use Rattle.laws.proofs.FirstFailLaws.{none-first, none-rest, none-cons}
+use Rattle.pattern.specs.Pattern.{shared}
 use Rattle.joining.specs.declared.Heard.{Heard}
-use Rattle.joining.specs.Joining.{joinOf, valueOf, heardOf}
-use Rattle.joining.specs.Range.{inRange}
-use Rattle.joining.specs.Whole.{Under}
+use Rattle.joining.specs.Joining.{rawOf, clippedOf, joinOf, valueOf, heardOf}
+use Rattle.joining.specs.Whole.{bound, Under}
 use Rattle.joining.specs.Linked.{magnitudeOf, magnitudes, lower, higher, chosen, linkOf}
-use Rattle.joining.proofs.MadeLaws.{join-voice}
-use Rattle.joining.proofs.BoundLaws.{join-under}
+use Rattle.joining.proofs.MadeLaws.{join-under, join-voice}
 
 -- ---- the best of a list, by a test that says which of two is better
 
@@ -131,7 +128,7 @@ unfolding chosen
 extremes [] h k = absurd (omega arith)
 extremes (m ∷ ms) h k = (best plain lt upward ms m h, best plain (λ x y. lt y x) downward ms m h)
 
--- ---- the magnitudes of a segment whose values are in range
+-- ---- the magnitudes of a segment
 
 plain-magnitude : (x : Float) (n : ℕ) → Under x n → plain (magnitudeOf x) ≡ true
 unfolding magnitudeOf
@@ -140,33 +137,21 @@ plain-magnitude (inf s) n u = absurd u
 plain-magnitude (fin s zero e) n u = refl
 plain-magnitude (fin s (suc m) e) n u = refl
 
-plain-more : (xs : List Float) (hs : List Heard) → NoneFails inRange xs → length xs ≤ mostBits → NoneFails plain (magnitudes hs)
-    → NoneFails plain (magnitudes (joinOf xs ∷ hs))
-plain-more [] hs h l k = unfold joinOf magnitudes in k
-plain-more (x ∷ xs) hs h l k =
+plain-all : (xss : List (List Float)) → NoneFails plain (magnitudes (map joinOf xss))
+unfolding firstFail rawOf clippedOf joinOf magnitudes
+plain-all [] = refl
+plain-all ([] ∷ xss) = plain-all xss
+plain-all ((x ∷ xs) ∷ xss) =
     let v = valueOf (joinOf (x ∷ xs)) in
-    rw (join-voice x xs .magnitude hs)
-    (none-cons plain (magnitudeOf v) (magnitudes hs) (plain-magnitude v (length (x ∷ xs) * 65536) (join-under (x ∷ xs) h l)) k)
-
-plain-from : (less : Bool) (P D e n : ℕ) (vs : List Float) → NoneFails inRange vs → length vs ≤ mostBits
-    → NoneFails plain (magnitudes (map joinOf (sharedFrom less P D e n vs)))
-unfolding firstFail magnitudes sharedFrom
-plain-from less P D e zero vs h l = refl
-plain-from less P D e (suc n) vs h l =
-    let c = copiesAt less P D e in
-    plain-more (take c vs) (map joinOf (sharedFrom less P D (after less P D e) n (drop c vs)))
-    (none-take inRange c vs h) (rw length-take (omega arith))
-    (plain-from less P D (after less P D e) n (drop c vs) (none-drop inRange c vs h) (rw length-drop (omega arith)))
+    rw (join-voice x xs .magnitude (map joinOf xss))
+    (none-cons plain (magnitudeOf v) (magnitudes (map joinOf xss)) (plain-magnitude v bound (join-under (x ∷ xs))) (plain-all xss))
 
 -- of the link record: least and greatest are magnitudes of heard bits, and none is below the one or above the other
 pub record Extremes (hs : List Heard) : Type 0 where
   pub least : Best lt (linkOf hs .least) (magnitudes hs)
   pub greatest : Best (λ x y. lt y x) (linkOf hs .greatest) (magnitudes hs)
 
-pub link-extremes : (d : ℤ) (N e : ℕ) (vs : List Float) → NoneFails inRange vs → length vs ≤ mostBits
-    → 0 < length (magnitudes (heardOf d N e vs)) → Extremes (heardOf d N e vs)
-unfolding shared heardOf linkOf
-link-extremes d N e vs h l k =
-    let p = plain-from (negative d) (2 * N) (2 * natAbs d) e N vs h l in
-    let x = extremes (magnitudes (heardOf d N e vs)) p k in
-    record { least = x .0; greatest = x .1 }
+pub link-extremes : (d : ℤ) (N e : ℕ) (vs : List Float) → 0 < length (magnitudes (heardOf d N e vs)) → Extremes (heardOf d N e vs)
+unfolding heardOf linkOf
+link-extremes d N e vs k =
+    let x = extremes (magnitudes (heardOf d N e vs)) (plain-all (shared d N e vs)) k in record { least = x .0; greatest = x .1 }

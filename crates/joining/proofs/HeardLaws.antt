@@ -19,7 +19,7 @@ use Rattle.pattern.proofs.EvenLaws.{dropped-all}
 use Rattle.pattern.proofs.SourceLaws.{sent-up}
 use Rattle.joining.specs.declared.Heard.{Heard}
 use Rattle.joining.specs.declared.Heard.the-variants.{Nothing}
-use Rattle.joining.specs.Joining.{joinOf, countOf, heardOf}
+use Rattle.joining.specs.Joining.{rawOf, clippedOf, joinOf, countOf, heardOf}
 use Rattle.joining.specs.Linked.{punctures}
 use Rattle.joining.proofs.MadeLaws.{join-count, join-voice}
 use Rattle.joining.proofs.HomeLaws.{heard-shared}
@@ -42,7 +42,7 @@ abbrev unheard : Bool → ℕ → ℕ → ℕ → ℕ → List Float → ℕ
 unheard less P D e n vs = punctures (map joinOf (sharedFrom less P D e n vs))
 
 pub punctures-first : (l : List Float) (hs : List Heard) → punctures (joinOf l ∷ hs) ≡ 1 - length l + punctures hs
-punctures-first [] hs = unfold joinOf punctures in omega arith
+punctures-first [] hs = unfold rawOf clippedOf joinOf punctures in omega arith
 punctures-first (v ∷ vs) hs = omega (arith, join-voice v vs .counts hs)
 
 -- those of which no copy is sent

@@ -1,5 +1,5 @@
 -- Laws of step 6's way back: how long it is, what each position gets, and the segment as it was sent.
-use mathlib.Core.Path.{_≡_, refl, sym, ap, _∙_}
+use mathlib.Core.Path.{_≡_, refl, sym, ap, ap₂, _∙_}
 use mathlib.Core.Bool.{Bool, true, false}
 use mathlib.Core.List.{List, [], _∷_, map}
 use Prim.Native.Nat.{ℕ, zero, suc, _+_, _*_, _-_, _≤_, _<_}
@@ -14,16 +14,17 @@ use Rattle.laws.proofs.PartLaws.{map-at}
 use Rattle.matching.specs.Signed.{signedBy}
 use Rattle.pattern.specs.Pattern.{again, grown, after, sharedFrom, shared, matched, copiesOf, Rates}
 use Rattle.pattern.specs.Closed.{sentBefore}
-use Rattle.pattern.proofs.MatchedLaws.{sent-all, sent-more, matched-map, length-shared, shared-at, shared-matched}
+use Rattle.pattern.proofs.MatchedLaws.{sent-all, sent-more, length-shared, shared-at, shared-matched}
 use Rattle.pattern.proofs.SourceLaws.{sent-up}
 use Rattle.pattern.proofs.SegmentLaws.{shared-by}
 use Rattle.joining.specs.declared.Heard.{Heard}
-use Rattle.joining.specs.declared.Heard.the-variants.{Nothing}
-use Rattle.joining.specs.Joining.{onceOf, joinOf, valueOf, heardOf, homeOf}
+use Rattle.joining.specs.declared.Heard.the-variants.{Nothing, Once}
+use Rattle.joining.specs.Joining.{rawOf, clipped, clippedOf, joinOf, valueOf, heardOf, homeOf, sumsOf}
+use Rattle.joining.proofs.ClipLaws.{clip-heard}
 
--- the values that bits get by their shares of the values sent
-abbrev pub homes : List (List Float) → List Float
-homes ls = map valueOf (map joinOf ls)
+-- the sums of bits by their shares of the values sent
+abbrev pub sums : List (List Float) → List Float
+sums ls = map valueOf (map rawOf ls)
 
 -- one for each bit
 pub length-heard : (d : ℤ) (N e : ℕ) (vs : List Float) → length (heardOf d N e vs) ≡ N
@@ -44,6 +45,20 @@ pub home-shared : (d : ℤ) (N e j : ℕ) (vs : List Float) (z : Float) → j < 
 unfolding homeOf
 home-shared d N e j vs z h =
     map-at valueOf (heardOf d N e vs) j z Nothing (omega (arith, length-heard d N e vs)) ∙ ap valueOf (heard-shared d N e j vs h)
+
+-- the sums, and each of them clipped
+pub length-sums : (d : ℤ) (N e : ℕ) (vs : List Float) → length (sumsOf d N e vs) ≡ N
+unfolding sumsOf
+length-sums d N e vs = simp length-map (length-shared d N e vs)
+
+clip-each : (ls : List (List Float)) → map clipped (sums ls) ≡ map valueOf (map joinOf ls)
+unfolding joinOf
+clip-each [] = refl
+clip-each (l ∷ ls) = ap₂ (λ (x : Float) (xs : List Float). x ∷ xs) (sym (clip-heard (rawOf l))) (clip-each ls)
+
+pub sums-clipped : (d : ℤ) (N e : ℕ) (vs : List Float) → map clipped (sumsOf d N e vs) ≡ homeOf d N e vs
+unfolding heardOf homeOf sumsOf
+sums-clipped d N e vs = clip-each (shared d N e vs)
 
 -- where copy c of x came as f x c, it gets the join of f x 0, f x 1, .. of its own x
 pub home-matched : {A : Type 0} (f : A → ℕ → Float) (d : ℤ) (e j : ℕ) (xs : List A) (a : A) (z : Float) → j < length xs
@@ -74,30 +89,35 @@ heard-alone d N e j vs {a} {b} r h qa qb =
 -- ---- by a sign and a magnitude
 
 -- d is not 0
-pub heard-by : (less : Bool) (m N e : ℕ) (vs : List Float) → 0 < m
+pub heard-by : (less : Bool) (m N e : ℕ) (vs : List Float) → (less ≡ true → 0 < m)
     → heardOf (signedBy less m) N e vs ≡ map joinOf (sharedFrom less (2 * N) (2 * m) e N vs)
 unfolding heardOf
 heard-by less m N e vs h = ap (map joinOf) (shared-by less m N e vs h)
 
-pub home-by : (less : Bool) (m N e : ℕ) (vs : List Float) → 0 < m
-    → homeOf (signedBy less m) N e vs ≡ homes (sharedFrom less (2 * N) (2 * m) e N vs)
-unfolding homeOf
-home-by less m N e vs h = ap (map valueOf) (heard-by less m N e vs h)
+pub sums-by : (less : Bool) (m N e : ℕ) (vs : List Float) → 0 < m
+    → sumsOf (signedBy less m) N e vs ≡ sums (sharedFrom less (2 * N) (2 * m) e N vs)
+unfolding sumsOf
+sums-by less m N e vs h = ap sums (shared-by less m N e vs (λ q. h))
 
 -- d = 0: each bit is heard once
-each-once : (P e n : ℕ) (vs : List Float) → length vs ≡ n → map joinOf (sharedFrom false P 0 e n vs) ≡ map onceOf vs
-unfolding again grown sharedFrom joinOf
+each-once : (P e n : ℕ) (vs : List Float) → length vs ≡ n → map joinOf (sharedFrom false P 0 e n vs) ≡ map Once (map clipped vs)
+unfolding again grown sharedFrom rawOf clippedOf joinOf
 each-once P e zero [] h = refl
 each-once P e zero (v ∷ vs) h = absurd (omega arith)
 each-once P e (suc n) [] h = absurd (omega arith)
-each-once P e (suc n) (v ∷ vs) h = ap (λ (l : List Heard). onceOf v ∷ l) (each-once P (after false P 0 e) n vs (omega arith))
+each-once P e (suc n) (v ∷ vs) h = ap (λ (l : List Heard). Once (clipped v) ∷ l) (each-once P (after false P 0 e) n vs (omega arith))
 
-pub heard-same : (less : Bool) (m N e : ℕ) (vs : List Float) → m ≡ 0 → length vs ≡ N → heardOf (signedBy less m) N e vs ≡ map onceOf vs
+pub heard-same : (less : Bool) (m N e : ℕ) (vs : List Float) → m ≡ 0 → length vs ≡ N → heardOf (signedBy less m) N e vs ≡ map Once (map clipped vs)
 unfolding shared heardOf
 heard-same false zero N e vs z h = each-once (2 * N) e N vs h
 heard-same true zero N e vs z h = each-once (2 * N) e N vs h
 heard-same less (suc a) N e vs z h = absurd (omega arith)
 
-pub home-same : (less : Bool) (m N e : ℕ) (vs : List Float) → m ≡ 0 → length vs ≡ N → homeOf (signedBy less m) N e vs ≡ map valueOf (map onceOf vs)
+values-once : (xs : List Float) → map valueOf (map Once xs) ≡ xs
+unfolding valueOf
+values-once [] = refl
+values-once (x ∷ xs) = ap (λ (l : List Float). x ∷ l) (values-once xs)
+
+pub home-same : (less : Bool) (m N e : ℕ) (vs : List Float) → m ≡ 0 → length vs ≡ N → homeOf (signedBy less m) N e vs ≡ map clipped vs
 unfolding homeOf
-home-same less m N e vs z h = ap (map valueOf) (heard-same less m N e vs z h)
+home-same less m N e vs z h = ap (map valueOf) (heard-same less m N e vs z h) ∙ values-once (map clipped vs)

@@ -1,4 +1,4 @@
--- Laws of the copies of one bit as a loop joins them.
+-- Laws of the copies of one bit as a loop adds them.
 use mathlib.Core.Path.{_≡_, refl, sym, ap, _∙_}
 use mathlib.Core.List.{List, [], _∷_}
 use Prim.Native.Nat.{ℕ, suc, _+_, _-_, _≤_, _<_}
@@ -7,8 +7,8 @@ use native.Mathlib.Omega.{arith}
 use lib.ListN.{length, take, drop, getD, length-drop}
 use lib.Seq.{drop-cons, length-take-le}
 use lib.Ieee.{Float, nan, binary32, add}
-use Rattle.joining.specs.declared.Heard.the-variants.{Nothing}
-use Rattle.joining.specs.Joining.{sumOf, onceOf, joinedOf, joinOf}
+use Rattle.joining.specs.declared.Heard.the-variants.{Nothing, Once, Joined}
+use Rattle.joining.specs.Joining.{sumOf, rawOf}
 
 -- a, and the values from i up to `end` added to it in order
 abbrev pub summed : List Float → Float → ℕ → ℕ → Float
@@ -28,25 +28,25 @@ module _ (l : List Float) where
   pub sum-end : (i end : ℕ) (a : Float) → end ≤ i → summed l a i end ≡ a
   sum-end i end a h = let n : end - i ≡ 0 = omega arith in rw n
 
-  pub join-none : (i n : ℕ) → n ≡ 0 → joinOf (take n (drop i l)) ≡ Nothing
-  unfolding joinOf
-  join-none i n h = rw h
+  pub raw-none : (i n : ℕ) → n ≡ 0 → rawOf (take n (drop i l)) ≡ Nothing
+  unfolding rawOf
+  raw-none i n h = rw h
 
-  pub join-one : (i n : ℕ) → n ≡ 1 → i < length l → joinOf (take n (drop i l)) ≡ onceOf (getD l i nan)
-  unfolding joinOf
-  join-one i n h k = rw h (ap joinOf (part-cons i 0 k))
+  pub raw-one : (i n : ℕ) → n ≡ 1 → i < length l → rawOf (take n (drop i l)) ≡ Once (getD l i nan)
+  unfolding rawOf
+  raw-one i n h k = rw h (ap rawOf (part-cons i 0 k))
 
-  pub join-many : (i n : ℕ) → 1 < n → i + n ≤ length l → joinOf (take n (drop i l)) ≡ joinedOf (summed l (getD l i nan) (i + 1) (i + n)) n
-  join-many i n h k =
+  pub raw-many : (i n : ℕ) → 1 < n → i + n ≤ length l → rawOf (take n (drop i l)) ≡ Joined (summed l (getD l i nan) (i + 1) (i + n)) n
+  raw-many i n h k =
       let m = i + n - (i + 1) in
       let nm : n ≡ suc m = omega arith in
       let t = take m (drop (i + 1) l) in
       let len : length t ≡ m = length-take-le m (drop (i + 1) l) (omega (arith, length-drop (i + 1) l)) in
-      ap (λ (j : ℕ). joinOf (take j (drop i l))) nm
-      ∙ ap joinOf (part-cons i m (omega arith))
+      ap (λ (j : ℕ). rawOf (take j (drop i l))) nm
+      ∙ ap rawOf (part-cons i m (omega arith))
       ∙ many (getD l i nan) t (omega arith)
-      ∙ ap (λ (j : ℕ). joinedOf (sumOf (getD l i nan) t) j) (ap suc len ∙ sym nm)
+      ∙ ap (λ (j : ℕ). Joined (sumOf (getD l i nan) t) j) (ap suc len ∙ sym nm)
     where
-      many : (x : Float) (ys : List Float) → 0 < length ys → joinOf (x ∷ ys) ≡ joinedOf (sumOf x ys) (suc (length ys))
+      many : (x : Float) (ys : List Float) → 0 < length ys → rawOf (x ∷ ys) ≡ Joined (sumOf x ys) (suc (length ys))
       many x [] h = absurd (omega arith)
-      many x (y ∷ ys) h = unfold joinOf in refl
+      many x (y ∷ ys) h = unfold rawOf in refl

@@ -1,3 +1,4 @@
+pub mod ClipLaws
 pub mod MadeLaws
 pub mod JoinLaws
 pub mod HomeLaws

@@ -12,7 +12,7 @@ use Rattle.sheet.specs.Counts.{mostEncoded, mostBits}
 use Rattle.pattern.specs.Pattern.{grown, copiesAt, after, copiesFrom, sharedFrom, Stands, Segment}
 use Rattle.pattern.proofs.CountLaws.{again-more, grown-no, after-stands}
 use Rattle.pattern.proofs.WalkLaws.{first-apart}
-use Rattle.pattern.proofs.SegmentLaws.{stands, sized-copies}
+use Rattle.pattern.proofs.SegmentLaws.{sized-copies}
 
 -- ---- one bit
 
@@ -39,14 +39,15 @@ pub record Place (less : Bool) (m N : ℕ) (vs : List Float) (e k i : ℕ) : Typ
   pub here : Stands less (2 * N) (2 * m) e
   pub rest : k + sumTo (copiesFrom less (2 * N) (2 * m) e) (N - i) ≡ length vs
 
-pub place-start : (less : Bool) (m N e : ℕ) (vs : List Float) → Segment less m N (length vs) e → 0 < m → Place less m N vs e 0 0
-place-start less m N e vs s h =
+pub place-start : (less : Bool) (m N e : ℕ) (vs : List Float) → Segment less m N (length vs) e → Stands less (2 * N) (2 * m) e → (less ≡ true → 0 < m)
+    → Place less m N vs e 0 0
+place-start less m N e vs s b h =
     let q : N - 0 ≡ N = omega arith in
     record {
       few = s .few;
       most = s .most;
       upto = omega arith;
-      here = stands less m N (length vs) e s h;
+      here = b;
       rest = rw q (omega (arith, sized-copies less m N (length vs) e s h));
     }
 

@@ -2,22 +2,20 @@
 use mathlib.Core.Path.{_≡_, refl}
 use mathlib.Core.Bool.{Bool, false}
 use mathlib.Core.List.{List, [], map}
-use Prim.Native.Nat.{ℕ, zero, suc, _*_, _-_, _≤_, _<_}
-use native.Mathlib.Nat.{le-trans, mul-le-mul-right}
+use Prim.Native.Nat.{ℕ, zero, suc, _*_, _≤_, _<_}
 use native.Mathlib.Omega.{arith}
 use lib.IntN.{ℤ, natAbs}
 use lib.ListN.{length, getD, drop, length-take, length-drop}
-use lib.Ieee.{Float, nan, inf, fin, down, isNan}
+use lib.Ieee.{Float, nan, inf, fin, isNan}
 use Rattle.laws.specs.FirstFail.{firstFail, NoneFails}
 use Rattle.laws.proofs.FirstFailLaws.{none-take, none-drop}
 use Rattle.sheet.specs.Counts.{mostBits}
 use Rattle.pattern.specs.Pattern.{copiesAt, after, sharedFrom, negative, shared}
-use Rattle.joining.specs.Joining.{joinOf, valueOf, homeOf}
-use Rattle.joining.specs.Range.{inRange}
-use Rattle.joining.specs.Whole.{Whole, smallWhole, wholeOf, total, Under}
+use Rattle.joining.specs.Joining.{homeOf}
+use Rattle.joining.specs.Whole.{Whole, smallWhole, wholeOf, total, bound, bounded, Under}
 use Rattle.joining.proofs.HomeLaws.{home-shared}
 use Rattle.joining.proofs.WholeLaws.{join-exact}
-use Rattle.joining.proofs.BoundLaws.{join-under}
+use Rattle.joining.proofs.MadeLaws.{join-under}
 
 -- a bit's values are among those sent
 pub record Among {A : Type 0} (ok : A → Bool) (vs part : List A) : Type 0 where
@@ -34,30 +32,20 @@ among-from ok less P D e (suc n) (suc j) vs h =
     let r = among-from ok less P D (after less P D e) n j (drop c vs) (none-drop ok c vs h) in
     record { none = r .none; few = omega (arith, r .few, length-drop c vs) }
 
-among : {A : Type 0} (ok : A → Bool) (d : ℤ) (N e j : ℕ) (vs : List A) → NoneFails ok vs → Among ok vs (getD (shared d N e vs) j [])
+pub among : {A : Type 0} (ok : A → Bool) (d : ℤ) (N e j : ℕ) (vs : List A) → NoneFails ok vs → Among ok vs (getD (shared d N e vs) j [])
 unfolding shared
 among ok d N e j vs h = among-from ok (negative d) (2 * N) (2 * natAbs d) e N j vs h
 
--- whole values of at most 255 in magnitude: each sum is the exact whole sum of the bit's copies
+-- whole values of at most 255 in magnitude: each joined value is the exact whole sum of the bit's copies, clipped
 pub home-exact : (d : ℤ) (N e j : ℕ) (vs : List Float) (z : Float) → NoneFails smallWhole vs → length vs ≤ mostBits → j < N
-    → Whole (getD (homeOf d N e vs) j z) (total (map wholeOf (getD (shared d N e vs) j [])))
+    → Whole (getD (homeOf d N e vs) j z) (bounded (total (map wholeOf (getD (shared d N e vs) j []))))
 home-exact d N e j vs z h l k =
     let a = among smallWhole d N e j vs h in
     rw (home-shared d N e j vs z k) (join-exact (getD (shared d N e vs) j []) (a .none) (omega (arith, a .few)))
 
-under-more : (x : Float) (m n : ℕ) → m ≤ n → Under x (m * 65536) → Under x (n * 65536)
-under-more nan m n h u = u
-under-more (inf s) m n h u = u
-under-more (fin s a e) m n h u = le-trans u (mul-le-mul-right (down e) (mul-le-mul-right 65536 h))
-
--- values in range: each joined value is finite
-pub home-under : (d : ℤ) (N e j : ℕ) (vs : List Float) (z : Float) → NoneFails inRange vs → length vs ≤ mostBits → j < N
-    → Under (getD (homeOf d N e vs) j z) (length vs * 65536)
-home-under d N e j vs z h l k =
-    let part = getD (shared d N e vs) j [] in
-    let a = among inRange d N e j vs h in
-    rw (home-shared d N e j vs z k)
-    (under-more (valueOf (joinOf part)) (length part) (length vs) (a .few) (join-under part (a .none) (omega (arith, a .few))))
+-- each joined value is finite, and at most 1,024 in magnitude
+pub home-under : (d : ℤ) (N e j : ℕ) (vs : List Float) (z : Float) → j < N → Under (getD (homeOf d N e vs) j z) bound
+home-under d N e j vs z k = rw (home-shared d N e j vs z k) (join-under (getD (shared d N e vs) j []))
 
 -- and no NaN
 pub under-number : (x : Float) (n : ℕ) → Under x n → isNan x ≡ false

@@ -1,4 +1,4 @@
--- Whole floats: where every soft value is whole and small, a joined value is the exact whole sum.
+-- Whole floats: where every soft value is whole and small, every sum is the exact whole sum, and a joined value that sum, clipped.
 use mathlib.Core.Path.{_≡_, refl, sym, ap, ap₂, _∙_, subst}
 use mathlib.Core.Bool.{Bool, true, false, cond, _&&_}
 use mathlib.Core.List.{List, [], _∷_, map}
@@ -20,8 +20,9 @@ use Rattle.laws.proofs.FirstFailLaws.{none-first, none-rest}
 use Rattle.sheet.specs.Counts.{mostBits}
 use Rattle.matching.specs.Signed.{signedBy}
 use Rattle.matching.proofs.SignedLaws.{magnitude}
-use Rattle.joining.specs.Joining.{sumOf, joinOf, valueOf}
-use Rattle.joining.specs.Whole.{Whole, smallWhole, wholeOf, total}
+use Rattle.joining.specs.Joining.{sumOf, rawOf, clippedOf, joinOf, valueOf}
+use Rattle.joining.specs.Whole.{Whole, smallWhole, wholeOf, total, lesser, bounded}
+use Rattle.joining.proofs.ClipLaws.{clip-whole}
 use Rattle.joining.proofs.MadeLaws.{join-value}
 
 -- ---- integers
@@ -161,13 +162,18 @@ sum-exact (x ∷ xs) a z k v b ws h =
     (add-whole binary32 a x z w v (s .0) (omega (arith, s .1)))
     (omega (arith, abs-add z w, s .1)) (none-rest smallWhole x xs ws) (omega arith))
 
--- THE RULE: of at most 60,000 whole values up to 255 in magnitude, the joined value is the exact sum
-pub join-exact : (xs : List Float) → NoneFails smallWhole xs → length xs ≤ mostBits → Whole (valueOf (joinOf xs)) (total (map wholeOf xs))
-unfolding joinOf valueOf total
-join-exact [] ws h = record { sign = false; size = 0; value = (refl, refl); is = refl }
-join-exact (x ∷ xs) ws h =
+-- THE RULE: of at most 60,000 whole values up to 255 in magnitude, the sum is the exact sum, and the joined value is that, clipped
+pub sum-whole : (x : Float) (xs : List Float) → NoneFails smallWhole (x ∷ xs) → length (x ∷ xs) ≤ mostBits
+    → Whole (sumOf x xs) (total (map wholeOf (x ∷ xs)))
+unfolding total
+sum-whole x xs ws h =
     let s = small-is x (none-first smallWhole x xs ws) in
-    rw (join-value x xs) (sum-exact xs x (wholeOf x) 1 (s .0) (omega (arith, s .1)) (none-rest smallWhole x xs ws) (omega arith))
+    sum-exact xs x (wholeOf x) 1 (s .0) (omega (arith, s .1)) (none-rest smallWhole x xs ws) (omega arith)
+
+pub join-exact : (xs : List Float) → NoneFails smallWhole xs → length xs ≤ mostBits → Whole (valueOf (joinOf xs)) (bounded (total (map wholeOf xs)))
+unfolding rawOf clippedOf joinOf valueOf total lesser bounded
+join-exact [] ws h = record { sign = false; size = 0; value = (refl, refl); is = refl }
+join-exact (x ∷ xs) ws h = rw (join-value x xs) (clip-whole (sumOf x xs) (total (map wholeOf (x ∷ xs))) (sum-whole x xs ws h))
 
 -- a float is at most one whole number
 pub whole-one : (x : Float) (z w : ℤ) → Whole x z → Whole x w → z ≡ w

@@ -19,6 +19,7 @@ use Rattle.laws.specs.FirstFail.{NoneFails}
 use Rattle.laws.proofs.FirstFailLaws.{none-first, none-rest}
 use Rattle.laws.proofs.TestLaws.{split}
 use Rattle.joining.specs.Joining.{sumOf, joinOf, valueOf}
+use Rattle.joining.proofs.ClipLaws.{clip-minus}
 use Rattle.joining.proofs.MadeLaws.{join-value}
 use Rattle.joining.proofs.BoundLaws.{plus-round, neg-round, le-nat}
 use Rattle.joining.proofs.WholeLaws.{by, sub-mul}
@@ -213,5 +214,5 @@ pub join-minus : (x : Float) (xs : List Float) → NoneFails (fits binary32) (x 
     → x ∷ xs ≡ replicate (length (x ∷ xs)) minusZero
 join-minus x xs h q =
     let t = subst T (sym (none-first (fits binary32) x xs h)) tt in
-    let r = sum-all-minus xs x t (none-rest (fits binary32) x xs h) (sym (join-value x xs) ∙ q) in
+    let r = sum-all-minus xs x t (none-rest (fits binary32) x xs h) (clip-minus (sumOf x xs) (sym (join-value x xs) ∙ q)) in
     ap₂ (λ (v : Float) (l : List Float). v ∷ l) (r .0) (r .1)

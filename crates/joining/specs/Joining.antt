@@ -1,31 +1,44 @@
 -- Soft values joined: what was heard of one bit, the value that it gets, and step 6's way back over a segment.
-use mathlib.Core.Bool.{false}
+use mathlib.Core.Bool.{true, false, cond}
 use mathlib.Core.List.{List, [], _∷_, foldl, map}
 use Prim.Native.Nat.{ℕ}
 use lib.IntN.{ℤ, pos}
 use lib.ListN.{length}
-use lib.Ieee.{Float, fin, binary32, add}
+use lib.Ieee.{Float, fin, binary32, add, le}
 use Rattle.pattern.specs.Pattern.{shared}
 use Rattle.joining.specs.declared.Heard.{Heard}
 use Rattle.joining.specs.declared.Heard.the-variants.{Nothing, Once, Joined}
+
+-- 1,024 is 1 x 2^10
+abbrev pub utmost : Float
+utmost = fin false 1 (pos 10)
+
+abbrev pub nethermost : Float
+nethermost = fin true 1 (pos 10)
+
+-- "a joined value beyond plus or minus 1,024 becomes that bound"; "Values within the bound keep every bit": x itself from -1,024 to 1,024, both allowed.
+-- No comparison holds of a NaN, which becomes 1,024; of values in range no sum is one
+unfoldable pub clipped : Float → Float
+clipped x = cond (le x utmost) (cond (le nethermost x) x nethermost) utmost
 
 -- "Copies are added in the order copy 0, 1, 2, .., each sum rounded once": a, and each of the others added to it
 abbrev pub sumOf : Float → List Float → Float
 sumOf a xs = foldl (add binary32) a xs
 
--- what is made of the value of a bit sent once: "A bit sent once keeps its value bit for bit."
-unfoldable pub onceOf : Float → Heard
-onceOf x = Once x
+-- what was heard of a bit by its copies. The sum starts from copy 0 itself, never from zero, which would turn a lone -0.0 into +0.0
+unfoldable pub rawOf : List Float → Heard
+rawOf [] = Nothing
+rawOf (x ∷ []) = Once x
+rawOf (x ∷ (y ∷ ys)) = Joined (sumOf x (y ∷ ys)) (length (x ∷ (y ∷ ys)))
 
--- and of the sum of n copies
-unfoldable pub joinedOf : Float → ℕ → Heard
-joinedOf s n = Joined s n
+-- "After the last addition, a joined value beyond .. becomes that bound; a value heard once is clipped too"
+unfoldable pub clippedOf : Heard → Heard
+clippedOf Nothing = Nothing
+clippedOf (Once x) = Once (clipped x)
+clippedOf (Joined s n) = Joined (clipped s) n
 
--- the sum starts from copy 0 itself, never from zero, which would turn a lone -0.0 into +0.0
 unfoldable pub joinOf : List Float → Heard
-joinOf [] = Nothing
-joinOf (x ∷ []) = onceOf x
-joinOf (x ∷ (y ∷ ys)) = joinedOf (sumOf x (y ∷ ys)) (length (x ∷ (y ∷ ys)))
+joinOf xs = clippedOf (rawOf xs)
 
 abbrev pub plusZero : Float
 plusZero = fin false 0 (pos 0)
@@ -48,3 +61,7 @@ heardOf d N e vs = map joinOf (shared d N e vs)
 
 unfoldable pub homeOf : ℤ → ℕ → ℕ → List Float → List Float
 homeOf d N e vs = map valueOf (heardOf d N e vs)
+
+-- and the sums as they are before they are clipped, +0.0 of none
+unfoldable pub sumsOf : ℤ → ℕ → ℕ → List Float → List Float
+sumsOf d N e vs = map valueOf (map rawOf (shared d N e vs))

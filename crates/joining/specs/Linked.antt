@@ -4,17 +4,21 @@ use mathlib.Core.Bool.{Bool, true, false, cond}
 use mathlib.Core.List.{List, [], _∷_, foldl}
 use Prim.Native.Nat.{ℕ, zero, suc, _+_}
 use lib.Dec.{eqb}
-use lib.Ieee.{Float, nan, inf, fin, lt}
+use lib.Ieee.{Float, nan, inf, fin, lt, le}
 use Rattle.joining.specs.declared.Heard.{Heard}
 use Rattle.joining.specs.declared.Heard.the-variants.{Nothing, Once, Joined}
 use Rattle.joining.specs.declared.linking.Link.{Link}
-use Rattle.joining.specs.Joining.{plusZero}
+use Rattle.joining.specs.Joining.{utmost, plusZero}
 
 unfoldable pub magnitudeOf : Float → Float
 magnitudeOf nan = nan
 magnitudeOf (inf s) = inf false
 magnitudeOf (fin s zero e) = plusZero
 magnitudeOf (fin s (suc m) e) = fin false (suc m) e
+
+-- a magnitude is clipped by holding it from above: that of x, clipped, is this of its own
+abbrev pub capped : Float → Float
+capped x = cond (le x utmost) x utmost
 
 -- the magnitudes of the bits that were heard, and how many were not
 unfoldable pub magnitudes : List Heard → List Float

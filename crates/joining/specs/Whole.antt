@@ -1,13 +1,15 @@
--- "If all soft values of a frame are whole and at most 255 in magnitude, every sum is the exact whole sum": what whole is, and the exact sum.
+-- "If all soft values of a frame are whole and at most 255 in magnitude, every sum is the exact whole sum", clipped: what whole is, the exact sum, and
+-- what clipping makes of it.
 use mathlib.Core.Path.{_≡_}
-use mathlib.Core.Bool.{Bool, true, false, _&&_}
+use mathlib.Core.Bool.{Bool, true, false, cond, _&&_}
 use mathlib.Core.List.{List, [], _∷_}
 use Prim.Native.Nat.{ℕ, zero, suc, _*_, _/_, _%_, _≤_}
 use lib.Dec.{eqb, leb}
-use lib.IntN.{ℤ, pos, negℤ, _+ℤ_}
+use lib.IntN.{ℤ, pos, negℤ, natAbs, _+ℤ_}
 use lib.Ieee.{Float, nan, inf, fin, up, down, binary32, ofInt}
 use lib.Ieee.Exact.{HasValue}
 use Rattle.matching.specs.Signed.{signedBy}
+use Rattle.pattern.specs.Pattern.{negative}
 
 -- the float x is the whole number z; a zero of either sign is 0
 pub record Whole (x : Float) (z : ℤ) : Type 0 where
@@ -31,14 +33,24 @@ unfoldable pub total : List ℤ → ℤ
 total [] = pos 0
 total (z ∷ zs) = z +ℤ total zs
 
--- "bits sent as +1 for 0 and -1 for 1 come home as plus or minus the number of copies, exactly, and as +0.0 where punctured"
+-- "a joined value beyond plus or minus 1,024 becomes that bound": a whole number keeps its sign, and its magnitude is the lesser of its own and 1,024
+abbrev pub bound : ℕ
+bound = 1024
+
+unfoldable pub lesser : ℕ → ℕ → ℕ
+lesser a b = cond (leb a b) a b
+
+unfoldable pub bounded : ℤ → ℤ
+bounded z = signedBy (negative z) (lesser (natAbs z) bound)
+
+-- bits sent as +1 for 0 and -1 for 1 come home as "plus or minus the lesser of copies and 1,024", exactly, and as +0.0 where punctured
 unfoldable pub soft : ℕ → Float
 soft zero = fin false 1 (pos 0)
 soft (suc b) = fin true 1 (pos 0)
 
 unfoldable pub counted : ℕ → ℕ → Float
-counted zero c = ofInt binary32 (pos c)
-counted (suc b) c = ofInt binary32 (negℤ (pos c))
+counted zero c = ofInt binary32 (pos (lesser c bound))
+counted (suc b) c = ofInt binary32 (negℤ (pos (lesser c bound)))
 
 -- finite, and at most n in magnitude
 abbrev pub Under : Float → ℕ → Type 0

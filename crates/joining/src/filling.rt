@@ -5,27 +5,39 @@ ghost use Prim.Native.Nat.{_<_};
 ghost use lib.ListN.{length};
 ghost use Rattle.matching.specs.Signed.{signedBy};
 ghost use Rattle.pattern.specs.Pattern.{Segment};
-ghost use Rattle.joining.specs.Joining.{onceOf, valueOf, homeOf};
-use crate::making::once;
-use crate::making::value;
+ghost use Rattle.joining.specs.Joining.{clipped, valueOf, homeOf, sumsOf};
+use crate::Heard;
+use crate::clipping::clip;
+use crate::clipping::clip_all;
 use crate::walking::hear_next;
 
-// d = 0: each bit gets what was heard once.
+// The value that a bit gets of what was heard of it.
+fn value(h: Heard) -> f32
+    ensures { λ r. ⌜ r ≡ valueOf h ⌝ }
+{
+    match h {
+        Heard::Nothing => 0.0,
+        Heard::Once(v) => v,
+        Heard::Joined(v, _) => v,
+    }
+}
+
+// d = 0: each bit was heard once.
 fn copy_values(values: &[f32], segment: &mut [f32])
     requires { ⌜ length (now segment) ≡ length (now values) ⌝ }
-    ensures { λ _. ⌜ now (segment .exit) ≡ map valueOf (map onceOf (now (values .entry))) ⌝ }
+    ensures { λ _. ⌜ now (segment .exit) ≡ map clipped (now (values .entry)) ⌝ }
 {
     let mut i: usize = 0;
     while i < values.len() {
-        segment[i] = value(once(values[i]));
+        segment[i] = clip(values[i]);
         i += 1;
     }
 }
 
-// d is not 0: each bit takes its next copies.
+// d is not 0: each bit gets the sum of its next copies.
 fn fill(values: &[f32], segment: &mut [f32], start: usize, less: bool, m: usize)
     requires { ⌜ Segment less m (length (now segment)) (length (now values)) start × (0 < m) ⌝ }
-    ensures { λ _. ⌜ now (segment .exit) ≡ homeOf (signedBy less m) (length (now (segment .entry))) start (now (values .entry)) ⌝ }
+    ensures { λ _. ⌜ now (segment .exit) ≡ sumsOf (signedBy less m) (length (now (segment .entry))) start (now (values .entry)) ⌝ }
 {
     let p = 2 * segment.len();
     let q = 2 * m;
@@ -51,5 +63,6 @@ pub fn join_segment(values: &[f32], segment: &mut [f32], e: usize, less: bool, m
         copy_values(values, segment);
     } else {
         fill(values, segment, e, less, m);
+        clip_all(segment);
     }
 }

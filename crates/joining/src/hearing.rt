@@ -8,6 +8,7 @@ ghost use Rattle.pattern.specs.Pattern.{shared, Segment};
 ghost use Rattle.pattern.specs.Closed.{sentBefore};
 ghost use Rattle.joining.specs.Joining.{joinOf};
 use crate::Heard;
+use crate::clipping::clip_heard;
 use crate::walking::hear_sent;
 
 // The copies of a bit stand at from, from + 1, ..: they are heard as by an e that goes from 1 by 1.
@@ -19,7 +20,8 @@ pub fn hear_at(values: &[f32], from: usize, copies: usize) -> Heard
         return Heard::Nothing;
     }
     let t = hear_sent(values, from, 1, copies - 1, 1);
-    t.heard
+    let h = t.heard;
+    clip_heard(h)
 }
 
 // How many of the v values sent of a segment of n bits belong to the bits before `bit`, without a walk.

@@ -1,15 +1,15 @@
 // The link record of a segment.
 ghost use mathlib.Core.Path.{_≡_};
 ghost use mathlib.Core.Bool.{false};
-ghost use mathlib.Core.List.{[], map};
-ghost use Prim.Native.Nat.{_+_, _^_, _<_};
+ghost use mathlib.Core.List.{[]};
+ghost use Prim.Native.Nat.{_+_, _*_, _^_, _<_};
 ghost use lib.ListN.{length};
 ghost use Rattle.matching.specs.Signed.{signedBy};
-ghost use Rattle.pattern.specs.Pattern.{Segment};
-ghost use Rattle.joining.specs.Joining.{onceOf, heardOf};
+ghost use Rattle.pattern.specs.Pattern.{Stands, Segment};
+ghost use Rattle.joining.specs.Joining.{clipped, clippedOf, heardOf};
 ghost use Rattle.joining.specs.Linked.{magnitudeOf, linkOf, withValue, withHeard, bothOf};
 use crate::Heard;
-use crate::making::once;
+use crate::clipping::cap;
 use crate::walking::hear_sent;
 
 pub struct Link {
@@ -38,11 +38,11 @@ impl Link {
         }
     }
 
-    // One value more, after `before` bits: the first, where all of those were punctured.
+    // One value more, clipped, after `before` bits: the first, where all of those were punctured. A magnitude need only be held from above.
     fn with_value(self, x: f32, before: usize) -> Link
-        ensures { λ r. ⌜ r ≡ withValue self before x ⌝ }
+        ensures { λ r. ⌜ r ≡ withValue self before (clipped x) ⌝ }
     {
-        let a = magnitude(x);
+        let a = cap(magnitude(x));
         if self.punctured == before {
             return Link {
                 least: a,
@@ -60,10 +60,10 @@ impl Link {
         l
     }
 
-    // One bit more, after `before` bits.
+    // One bit more, clipped, after `before` bits.
     pub fn with(self, h: Heard, before: usize) -> Link
         requires { ⌜ self .punctured + 1 < 2 ^ 64 ⌝ }
-        ensures { λ r. ⌜ r ≡ withHeard self before h ⌝ }
+        ensures { λ r. ⌜ r ≡ withHeard self before (clippedOf h) ⌝ }
     {
         match h {
             Heard::Nothing => Link {
@@ -111,10 +111,10 @@ impl Lanes {
         }
     }
 
-    // Four bits more, one to each lane.
+    // Four bits more, clipped, one to each lane.
     fn with(self, f: Heard, g: Heard, h: Heard, j: Heard, before: usize) -> Lanes
         requires { ⌜ (before + 3 < 2 ^ 64) × (self .a .punctured + 1 < 2 ^ 64) × (self .b .punctured + 1 < 2 ^ 64) × (self .c .punctured + 1 < 2 ^ 64) × (self .d .punctured + 1 < 2 ^ 64) ⌝ }
-        ensures { λ r. ⌜ (r .a ≡ withHeard (self .a) before f) × (r .b ≡ withHeard (self .b) (before + 1) g) × (r .c ≡ withHeard (self .c) (before + 2) h) × (r .d ≡ withHeard (self .d) (before + 3) j) ⌝ }
+        ensures { λ r. ⌜ (r .a ≡ withHeard (self .a) before (clippedOf f)) × (r .b ≡ withHeard (self .b) (before + 1) (clippedOf g)) × (r .c ≡ withHeard (self .c) (before + 2) (clippedOf h)) × (r .d ≡ withHeard (self .d) (before + 3) (clippedOf j)) ⌝ }
     {
         let a = self.a;
         let b = self.b;
@@ -140,32 +140,14 @@ impl Lanes {
     }
 }
 
-// Each value was heard alone. The first is put in before the loop, so that the loop need not ask for it; two a turn save moves between registers.
-fn link_once(values: &[f32]) -> Link
-    ensures { λ r. ⌜ r ≡ linkOf (map onceOf (now (values .entry))) ⌝ }
-{
-    let mut l = Link::new();
-    if values.len() == 0 {
-        return l;
-    }
-    l = l.with(once(values[0]), 0);
-    let mut i: usize = 1;
-    while i + 1 < values.len() {
-        l = l.with(once(values[i]), i);
-        l = l.with(once(values[i + 1]), i + 1);
-        i += 2;
-    }
-    if i < values.len() {
-        l = l.with(once(values[i]), i);
-    }
-    l
-}
-
-// d is above 0: each bit takes its next copies. The first bit starts the lanes, and what four leave over comes last.
-fn link_copies(values: &[f32], n: usize, start: usize, m: usize) -> Link
-    requires { ⌜ Segment false m n (length (now values)) start × (0 < m) ⌝ }
+// Each bit was sent, and takes its next copies. The first starts the lanes, and what four leave over comes last.
+fn link_sent(values: &[f32], n: usize, start: usize, m: usize) -> Link
+    requires { ⌜ Segment false m n (length (now values)) start × (0 < n → Stands false (2 * n) (2 * m) start) ⌝ }
     ensures { λ r. ⌜ r ≡ linkOf (heardOf (signedBy false m) n start (now (values .entry))) ⌝ }
 {
+    if n == 0 {
+        return Link::new();
+    }
     let p = 2 * n;
     let q = 2 * m;
     let first = hear_sent(values, 0, p, q, start);
@@ -202,18 +184,18 @@ fn link_copies(values: &[f32], n: usize, start: usize, m: usize) -> Link
 }
 
 // The link record of a segment of n bits, by d (its sign and its magnitude m) and the start e; `values` are those sent of it, in order.
-// Where no bit has two copies, each value was heard alone.
+// Where no bit has two copies, each value was heard alone: as of so many bits, each sent once.
 pub fn link_segment(values: &[f32], n: usize, e: usize, less: bool, m: usize) -> Link
     requires { ⌜ Segment less m n (length (now values)) e ⌝ }
     ensures { λ r. ⌜ r ≡ linkOf (heardOf (signedBy less m) n e (now (values .entry))) ⌝ }
 {
     if less || m == 0 {
-        let l = link_once(values);
+        let l = link_sent(values, values.len(), 1, 0);
         return Link {
             least: l.least,
             greatest: l.greatest,
             punctured: m,
         };
     }
-    link_copies(values, n, e, m)
+    link_sent(values, n, e, m)
 }

@@ -6,12 +6,10 @@ ghost use lib.Dec.{T};
 ghost use lib.ListN.{length, take, drop};
 ghost use lib.Ieee.{binary32, fits};
 ghost use Rattle.pattern.specs.Pattern.{copiesAt, after, Stands};
-ghost use Rattle.joining.specs.Joining.{joinOf, valueOf};
+ghost use Rattle.joining.specs.Joining.{rawOf, valueOf};
 use crate::Heard;
-use crate::making::joined;
-use crate::making::once;
 
-// What was heard of the bit, where the copies of the next bit begin, and e as that bit finds it.
+// What was heard of the bit, not yet clipped, where the copies of the next bit begin, and e as that bit finds it.
 pub struct Step {
     pub heard: Heard,
     pub next: usize,
@@ -22,13 +20,13 @@ pub struct Step {
 // asks, which is faster for a walk that only looks at the values. What was heard fits an f32, as the order of magnitudes needs.
 pub fn hear_sent(values: &[f32], k: usize, p: usize, q: usize, start: usize) -> Step
     requires { ⌜ Stands false p q start × (p + q < 2 ^ 64) × (k + copiesAt false p q start ≤ length (now values)) ⌝ }
-    ensures { λ r. ⌜ (r .heard ≡ joinOf (take (copiesAt false p q start) (drop k (now (values .entry))))) × (r .next ≡ k + copiesAt false p q start) × (r .e ≡ after false p q start) × T (fits binary32 (valueOf (r .heard))) ⌝ }
+    ensures { λ r. ⌜ (r .heard ≡ rawOf (take (copiesAt false p q start) (drop k (now (values .entry))))) × (r .next ≡ k + copiesAt false p q start) × (r .e ≡ after false p q start) × T (fits binary32 (valueOf (r .heard))) ⌝ }
 {
     let mut sum = values[k];
     let mut next = k + 1;
     if q < start {
         return Step {
-            heard: once(sum),
+            heard: Heard::Once(sum),
             next: next,
             e: start - q,
         };
@@ -40,7 +38,7 @@ pub fn hear_sent(values: &[f32], k: usize, p: usize, q: usize, start: usize) -> 
         e += p;
     }
     Step {
-        heard: joined(sum, next - k),
+        heard: Heard::Joined(sum, next - k),
         next: next,
         e: e - q,
     }
@@ -49,12 +47,12 @@ pub fn hear_sent(values: &[f32], k: usize, p: usize, q: usize, start: usize) -> 
 // Of any bit.
 pub fn hear_next(values: &[f32], k: usize, less: bool, p: usize, q: usize, start: usize) -> Step
     requires { ⌜ Stands less p q start × (p + q < 2 ^ 64) × (k + copiesAt less p q start ≤ length (now values)) ⌝ }
-    ensures { λ r. ⌜ (r .heard ≡ joinOf (take (copiesAt less p q start) (drop k (now (values .entry))))) × (r .next ≡ k + copiesAt less p q start) × (r .e ≡ after less p q start) ⌝ }
+    ensures { λ r. ⌜ (r .heard ≡ rawOf (take (copiesAt less p q start) (drop k (now (values .entry))))) × (r .next ≡ k + copiesAt less p q start) × (r .e ≡ after less p q start) ⌝ }
 {
     if less {
         if q < start {
             return Step {
-                heard: once(values[k]),
+                heard: Heard::Once(values[k]),
                 next: k + 1,
                 e: start - q,
             };

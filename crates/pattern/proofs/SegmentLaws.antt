@@ -4,7 +4,7 @@ use mathlib.Core.Bool.{Bool, true, false, false≢true}
 use mathlib.Core.List.{List, map-id}
 use Prim.Native.Nat.{ℕ, zero, suc, _+_, _*_, _-_, _≤_, _<_}
 use native.Mathlib.Omega.{arith}
-use lib.IntN.{pos, negsuc, natAbs}
+use lib.IntN.{pos, negsuc}
 use Rattle.laws.specs.Sums.{sumTo}
 use Rattle.matching.specs.Signed.{signedBy}
 use Rattle.matching.proofs.SignedLaws.{magnitude}
@@ -34,10 +34,10 @@ stands less m N W e s h = let b = begins less m N W e s h in record { above = b 
     few true s q = omega (arith, sized-less m N W e s)
 
 -- the copies of all bits are the bits that come out
-pub sized-copies : (less : Bool) (m N W e : ℕ) → Segment less m N W e → 0 < m → sumTo (copiesFrom less (2 * N) (2 * m) e) N ≡ W
+pub sized-copies : (less : Bool) (m N W e : ℕ) → Segment less m N W e → (less ≡ true → 0 < m) → sumTo (copiesFrom less (2 * N) (2 * m) e) N ≡ W
 unfolding copiesOf
 sized-copies false m N W e s h = sent-sum (pos m) N W e N (s .rates) ∙ sent-all (pos m) N W e (s .rates)
-sized-copies true zero N W e s h = absurd (omega arith)
+sized-copies true zero N W e s h = absurd (omega (arith, h refl))
 sized-copies true (suc a) N W e s h = sent-sum (negsuc a) N W e N (s .rates) ∙ sent-all (negsuc a) N W e (s .rates)
 
 -- the walk itself
@@ -48,11 +48,11 @@ matched-by f false m N e xs h = refl
 matched-by f true zero N e xs h = absurd (omega arith)
 matched-by f true (suc a) N e xs h = refl
 
-pub shared-by : {A : Type 0} (less : Bool) (m N e : ℕ) (vs : List A) → 0 < m
+pub shared-by : {A : Type 0} (less : Bool) (m N e : ℕ) (vs : List A) → (less ≡ true → 0 < m)
     → shared (signedBy less m) N e vs ≡ sharedFrom less (2 * N) (2 * m) e N vs
 unfolding shared
 shared-by false m N e vs h = refl
-shared-by true zero N e vs h = absurd (omega arith)
+shared-by true zero N e vs h = absurd (omega (arith, h refl))
 shared-by true (suc a) N e vs h = refl
 
 -- how many are sent of the first j bits: d = 0, d < 0, d > 0

@@ -1,5 +1,5 @@
 use denote.Ref.{now}
-use mathlib.Core.Path.{_≡_, sym, subst}
+use mathlib.Core.Path.{_≡_, sym, ap, _∙_, subst}
 use mathlib.Core.Bool.{false, false≢true}
 use Prim.Native.Nat.{ℕ, suc, _-_, _<_}
 use native.Mathlib.Omega.{arith}
@@ -7,8 +7,8 @@ use borrow.Author.Needs.{needs}
 use lib.ListN.{take, drop}
 use Rattle.pattern.specs.Pattern.{grown, Stands}
 use Rattle.pattern.proofs.CountLaws.{grown-bounds}
-use Rattle.joining.specs.Joining.{joinOf}
-use Rattle.joining.proofs.JoinLaws.{join-none}
+use Rattle.joining.specs.Joining.{rawOf, clippedOf, joinOf}
+use Rattle.joining.proofs.JoinLaws.{raw-none}
 use Rattle.joining.proofs.hearing.hear_at.Statement.{statement}
 use Rattle.joining.proofs.hearing.hear_at.Tie as tie
 
@@ -20,7 +20,8 @@ all-copies : (n : ℕ) → 0 < n → suc (grown false 1 (n - 1) 1) ≡ n
 all-copies n h = omega (arith, grown-bounds false 1 (n - 1) 1 (by-one (n - 1)))
 
 returns : tie.Need-returns
-returns c = let a = c .before .before .args in sym (join-none (now (a .values)) (a .from) (a .copies) (c .if1 .taken))
+unfolding clippedOf joinOf
+returns c = let a = c .before .before .args in sym (ap clippedOf (raw-none (now (a .values)) (a .from) (a .copies) (c .if1 .taken)))
 
 sub-hear-sent : tie.Need-sub-hear-sent
 sub-hear-sent c = search needs
@@ -30,11 +31,17 @@ hear-sent-requires c κs =
     let n = c .before .before .args .copies in
     (by-one (n - 1), omega arith, omega (arith, all-copies n (omega arith)))
 
+clip-heard-requires : tie.Need-clip-heard-requires
+clip-heard-requires c κs = search needs
+
 returns-2 : tie.Need-returns-2
+unfolding joinOf
 returns-2 c =
-    let a = c .before .before .before .args in
-    subst (λ (n : ℕ). c .hear-sent .result .heard ≡ joinOf (take n (drop (a .from) (now (a .values)))))
-    (all-copies (a .copies) (omega arith)) (c .hear-sent .ensures .0)
+    let h = c .before .hear-sent in
+    let a = c .before .before .before .before .args in
+    c .clip-heard .ensures
+    ∙ ap clippedOf
+    (subst (λ (n : ℕ). h .result .heard ≡ rawOf (take n (drop (a .from) (now (a .values))))) (all-copies (a .copies) (omega arith)) (h .ensures .0))
 
 pub hear-at-spec : {M : Type 1} → statement M
-hear-at-spec = tie.close (tie.spec returns sub-hear-sent hear-sent-requires returns-2)
+hear-at-spec = tie.close (tie.spec returns sub-hear-sent hear-sent-requires clip-heard-requires returns-2)

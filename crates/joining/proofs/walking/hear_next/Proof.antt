@@ -1,5 +1,5 @@
 use denote.Ref.{now}
-use mathlib.Core.Path.{sym, ap, _∙_}
+use mathlib.Core.Path.{sym, ap}
 use mathlib.Core.Bool.{true}
 use Prim.Native.Nat.{ℕ, _*_, _-_}
 use native.Mathlib.Omega.{arith}
@@ -7,20 +7,17 @@ use borrow.Author.Needs.{needs}
 use Rattle.pattern.specs.Pattern.{grown, copiesAt}
 use Rattle.pattern.proofs.CountLaws.{grown-yes}
 use Rattle.joining.proofs.PlaceLaws.{once}
-use Rattle.joining.proofs.JoinLaws.{join-none, join-one}
+use Rattle.joining.proofs.JoinLaws.{raw-none, raw-one}
 use Rattle.joining.proofs.walking.hear_next.Statement.{statement}
 use Rattle.joining.proofs.walking.hear_next.Tie as tie
 
-mul-once : tie.Need-mul-once
-mul-once c = search needs
+mul-t9 : tie.Need-mul-t9
+mul-t9 c = search needs
 
-shared-slice-read-once : tie.Need-shared-slice-read-once
-shared-slice-read-once c =
+shared-slice-read-t11 : tie.Need-shared-slice-read-t11
+shared-slice-read-t11 c =
     let a = c .before .before .before .before .args in
     omega (arith, once (a .less) (a .p) (a .q) (a .start) (omega arith))
-
-once-requires : tie.Need-once-requires
-once-requires c κs = search needs
 
 add-t13 : tie.Need-add-t13
 add-t13 c = search needs
@@ -30,9 +27,9 @@ sub-t14 c = search needs
 
 returns : tie.Need-returns
 returns c =
-    let a = c .before .before .before .before .before .args in
+    let a = c .before .before .before .before .args in
     let o = once (a .less) (a .p) (a .q) (a .start) (omega arith) in (
-      c .once .ensures ∙ sym (join-one (now (a .values)) (a .k) (copiesAt (a .less) (a .p) (a .q) (a .start)) (o .0) (omega arith)),
+      sym (raw-one (now (a .values)) (a .k) (copiesAt (a .less) (a .p) (a .q) (a .start)) (o .0) (omega arith)),
       omega arith,
       sym (o .1),
     )
@@ -48,7 +45,7 @@ returns-2 c =
     let a = c .before .before .before .args in
     let g = grown-yes (a .p) (a .q) (a .start) (omega arith) in
     let n = ap (λ (n : ℕ). n * a .p) g in
-    rw (c .before .if1 .taken) (sym (join-none (now (a .values)) (a .k) (1 - grown true (a .p) (a .q) (a .start)) (omega arith)), omega arith, omega arith)
+    rw (c .before .if1 .taken) (sym (raw-none (now (a .values)) (a .k) (1 - grown true (a .p) (a .q) (a .start)) (omega arith)), omega arith, omega arith)
 
 hear-sent-requires : tie.Need-hear-sent-requires
 hear-sent-requires c κs = rw (c .if1 .left) at (c .before .before .pre)
@@ -60,9 +57,8 @@ pub hear-next-spec : {M : Type 1} → statement M
 hear-next-spec =
     tie.close
     (tie.spec
-    mul-once
-    shared-slice-read-once
-    once-requires
+    mul-t9
+    shared-slice-read-t11
     add-t13
     sub-t14
     returns

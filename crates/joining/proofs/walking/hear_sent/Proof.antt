@@ -11,10 +11,10 @@ use lib.Ieee.{nan, binary32, fits}
 use lib.Ieee.Fits.{add-fits}
 use Rattle.pattern.specs.Pattern.{grown, copiesAt}
 use Rattle.pattern.proofs.CountLaws.{grown-no}
-use Rattle.joining.specs.Joining.{joinedOf}
+use Rattle.joining.specs.declared.Heard.the-variants.{Joined}
+use Rattle.joining.specs.Joining.{valueOf}
 use Rattle.joining.proofs.PlaceLaws.{once, more}
-use Rattle.joining.proofs.MadeLaws.{once-fits, joined-fits}
-use Rattle.joining.proofs.JoinLaws.{summed, sum-turn, sum-end, join-one, join-many}
+use Rattle.joining.proofs.JoinLaws.{summed, sum-turn, sum-end, raw-one, raw-many}
 use Rattle.joining.proofs.walking.hear_sent.Statement.{statement}
 use Rattle.joining.proofs.walking.hear_sent.Tie as tie
 
@@ -39,27 +39,19 @@ shared-slice-read-sum c = omega arith
 add-next : tie.Need-add-next Inv-loop μ-loop
 add-next c = omega arith
 
-once-requires : tie.Need-once-requires Inv-loop μ-loop
-once-requires c κs = search needs
-
 sub-t14 : tie.Need-sub-t14 Inv-loop μ-loop
 sub-t14 c = omega arith
 
 returns : tie.Need-returns Inv-loop μ-loop
+unfolding valueOf
 returns c =
-    let u = c .before .before in
-    let a = u .before .before .args in
-    let v = now (a .values) in
-    let o = once false (a .p) (a .q) (a .start) (omega arith) in (
-      c .once .ensures ∙ sym (join-one v (a .k) (copiesAt false (a .p) (a .q) (a .start)) (o .0) (omega arith)),
-      omega arith,
-      sym (o .1),
-      rw (c .once .ensures) (once-fits (getD v (a .k) nan) (u .shared-slice-known2 .given (a .k))),
-    )
+    let a = c .before .before .args in
+    let o = once false (a .p) (a .q) (a .start) (omega arith) in
+    (sym (raw-one (now (a .values)) (a .k) (copiesAt false (a .p) (a .q) (a .start)) (o .0) (omega arith)), omega arith, sym (o .1), c .before .shared-slice-known .given (a .k))
 
 loop-holds : tie.Need-loop-holds Inv-loop μ-loop
 loop-holds c =
-    (omega arith, omega arith, omega arith, omega arith, omega arith, refl, refl, c .before .shared-slice-known2 .given (c .before .before .before .args .k))
+    (omega arith, omega arith, omega arith, omega arith, omega arith, refl, refl, c .before .shared-slice-known .given (c .before .before .args .k))
 
 mul-sum-2 : tie.Need-mul-sum-2 Inv-loop μ-loop
 mul-sum-2 c = search needs
@@ -67,7 +59,7 @@ mul-sum-2 c = search needs
 shared-slice-read-sum-2 : tie.Need-shared-slice-read-sum-2 Inv-loop μ-loop
 shared-slice-read-sum-2 c =
     let l = c .before .before .loop in
-    let a = c .before .before .before .before .before .before .args in
+    let a = c .before .before .before .before .before .args in
     omega (arith, more (a .p) (a .q) (l .e) (omega arith) (omega arith) (omega arith))
 
 add-next-2 : tie.Need-add-next-2 Inv-loop μ-loop
@@ -82,7 +74,7 @@ loop-less c = omega arith
 loop-again : tie.Need-loop-again Inv-loop μ-loop
 loop-again c =
     let l = c .before .before .loop in
-    let a = c .before .before .before .before .before .before .args in
+    let a = c .before .before .before .before .before .args in
     let g = more (a .p) (a .q) (l .e) (omega arith) (omega arith) (omega arith) in
     let n = ap (λ (n : ℕ). n * a .p) g in
     let s = suc-mul (grown false (a .p) (a .q) (l .e + a .p)) (a .p) in
@@ -97,31 +89,27 @@ loop-again c =
       add-fits binary32 (l .sum) (getD (now (a .values)) (l .next) nan),
     )
 
-sub-joined : tie.Need-sub-joined Inv-loop μ-loop
-sub-joined c = omega arith
-
-joined-requires : tie.Need-joined-requires Inv-loop μ-loop
-joined-requires c κs = search needs
+sub-t9 : tie.Need-sub-t9 Inv-loop μ-loop
+sub-t9 c = omega arith
 
 sub-t20 : tie.Need-sub-t20 Inv-loop μ-loop
 sub-t20 c = omega arith
 
 returns-2 : tie.Need-returns-2 Inv-loop μ-loop
+unfolding valueOf
 returns-2 c =
-    let l = c .before .before .loop in
-    let a = c .before .before .before .before .before .before .args in
+    let l = c .before .loop in
+    let a = c .before .before .before .before .args in
     let v = now (a .values) in
     let g = grown-no false (a .p) (a .q) (l .e) (omega arith) in
     let n = ap (λ (n : ℕ). n * a .p) g in
     let s = more (a .p) (a .q) (a .start) (omega arith) (omega arith) (omega arith) in
     let many = suc (grown false (a .p) (a .q) (a .start)) in
     let c′ : l .next - a .k ≡ many = omega arith in (
-      c .joined .ensures
-          ∙ ap₂ joinedOf (sym (sum-end v (l .next) (a .k + many) (l .sum) (omega arith)) ∙ l .inv .6) c′
-          ∙ sym (join-many v (a .k) many (omega arith) (omega arith)),
+      ap₂ Joined (sym (sum-end v (l .next) (a .k + many) (l .sum) (omega arith)) ∙ l .inv .6) c′ ∙ sym (raw-many v (a .k) many (omega arith) (omega arith)),
       omega arith,
       omega arith,
-      rw (c .joined .ensures) (joined-fits (l .sum) (l .next - a .k) (l .inv .7)),
+      l .inv .7,
     )
 
 pub hear-sent-spec : {M : Type 1} → statement M
@@ -133,7 +121,6 @@ hear-sent-spec =
     mul-sum
     shared-slice-read-sum
     add-next
-    once-requires
     sub-t14
     returns
     loop-holds
@@ -143,7 +130,6 @@ hear-sent-spec =
     add-e
     loop-less
     loop-again
-    sub-joined
-    joined-requires
+    sub-t9
     sub-t20
     returns-2)

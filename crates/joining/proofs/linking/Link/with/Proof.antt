@@ -1,6 +1,7 @@
 use mathlib.Core.Path.{sym, ap, _∙_}
 use borrow.Author.Needs.{needs}
 use Rattle.joining.specs.declared.Heard.{Heard}
+use Rattle.joining.specs.Joining.{clippedOf}
 use Rattle.joining.specs.Linked.{withHeard}
 use Rattle.joining.proofs.linking.Link.with.Statement.{statement}
 use Rattle.joining.proofs.linking.Link.with.Tie as tie
@@ -24,22 +25,22 @@ with-value-requires-2 : tie.Need-with-value-requires-2
 with-value-requires-2 c κs = search needs
 
 returns : tie.Need-returns
-unfolding withHeard
+unfolding clippedOf withHeard
 returns c =
     let a = c .before .before .before .args in
-    sym (ap (λ (h : Heard). withHeard (a .self) (a .before) h) (c .before .enum-told .given .1))
+    sym (ap (λ (h : Heard). withHeard (a .self) (a .before) (clippedOf h)) (c .before .enum-told .given .1))
 
 returns-2 : tie.Need-returns-2
-unfolding withHeard
+unfolding clippedOf withHeard
 returns-2 c =
     let a = c .before .before .before .before .args in
-    c .with-value .ensures ∙ sym (ap (λ (h : Heard). withHeard (a .self) (a .before) h) (c .before .before .h .given .1))
+    c .with-value .ensures ∙ sym (ap (λ (h : Heard). withHeard (a .self) (a .before) (clippedOf h)) (c .before .before .h .given .1))
 
 returns-3 : tie.Need-returns-3
-unfolding withHeard
+unfolding clippedOf withHeard
 returns-3 c =
     let a = c .before .before .before .before .args in
-    c .with-value2 .ensures ∙ sym (ap (λ (h : Heard). withHeard (a .self) (a .before) h) (c .before .before .h2 .given .1))
+    c .with-value2 .ensures ∙ sym (ap (λ (h : Heard). withHeard (a .self) (a .before) (clippedOf h)) (c .before .before .h2 .given .1))
 
 pub with-spec : {M : Type 1} → statement M
 with-spec =

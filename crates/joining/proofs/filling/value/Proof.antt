@@ -2,8 +2,8 @@ use mathlib.Core.Path.{sym, ap}
 use borrow.Author.Needs.{needs}
 use lib.Ieee.{ofBits}
 use Rattle.joining.specs.Joining.{valueOf}
-use Rattle.joining.proofs.making.value.Statement.{statement}
-use Rattle.joining.proofs.making.value.Tie as tie
+use Rattle.joining.proofs.filling.value.Statement.{statement}
+use Rattle.joining.proofs.filling.value.Tie as tie
 
 enum-told : tie.Need-enum-told
 enum-told c = search needs

@@ -1,6 +1,6 @@
 use denote.Ref.{now}
-use mathlib.Core.Path.{_≡_, refl, ap, _∙_, subst}
-use mathlib.Core.Bool.{false}
+use mathlib.Core.Path.{_≡_, refl, sym, ap, _∙_, subst}
+use mathlib.Core.Bool.{false, false≢true}
 use mathlib.Core.List.{List, [], _∷_, map}
 use mathlib.Core.Logic.{⊎-elim}
 use Prim.Native.Nat.{ℕ, _+_, _*_, _-_, _^_, _≤_, _<_}
@@ -12,35 +12,37 @@ use lib.Seq.{length-take-le}
 use lib.Ieee.{Float, binary32, fits}
 use Rattle.matching.specs.Signed.{signedBy}
 use Rattle.pattern.specs.Pattern.{copiesAt, after, sharedFrom, Stands}
-use Rattle.pattern.proofs.SegmentLaws.{begins}
 use Rattle.joining.specs.declared.Heard.{Heard}
 use Rattle.joining.specs.declared.linking.Link.{Link}
-use Rattle.joining.specs.Joining.{joinOf, valueOf, heardOf}
+use Rattle.joining.specs.Joining.{rawOf, clippedOf, joinOf, valueOf, heardOf}
 use Rattle.joining.specs.Linked.{linkOf, withHeard}
+use Rattle.joining.proofs.ClipLaws.{clip-heard, clip-fits}
 use Rattle.joining.proofs.HomeLaws.{heard-by}
 use Rattle.joining.proofs.PlaceLaws.{Place, left, place-start, place-room, place-next, left-next}
 use Rattle.joining.proofs.LinkLaws.{link-none, Surveying, survey-start, survey-turn, survey-end}
 use Rattle.joining.proofs.LaneLaws.{Voiced, voiced, Dealt, none-dealt, deal-start, deal-a, deal-b, deal-c, deal-d}
-use Rattle.joining.proofs.linking.link_copies.Statement.{statement}
-use Rattle.joining.proofs.linking.link_copies.Tie as tie
+use Rattle.joining.proofs.linking.link_sent.Statement.{statement}
+use Rattle.joining.proofs.linking.link_sent.Tie as tie
 
 -- what hear_sent says of the bit whose copies begin at k
 abbrev Hears : ℕ → ℕ → List Float → ℕ → ℕ → Heard → ℕ → ℕ → Type 0
 Hears m n vs e k h k′ e′ =
     let P = 2 * n in let D = 2 * m in
-    (h ≡ joinOf (take (copiesAt false P D e) (drop k vs))) × (k′ ≡ k + copiesAt false P D e) × (e′ ≡ after false P D e) × T (fits binary32 (valueOf h))
+    (h ≡ rawOf (take (copiesAt false P D e) (drop k vs))) × (k′ ≡ k + copiesAt false P D e) × (e′ ≡ after false P D e) × T (fits binary32 (valueOf h))
 
 record Next (m n : ℕ) (vs : List Float) (e k i e′ k′ : ℕ) (h : Heard) : Type 0 where
   place : Place false m n vs e′ k′ (i + 1)
-  bits : map joinOf (left false m n vs e k i) ≡ h ∷ map joinOf (left false m n vs e′ k′ (i + 1))
-  voice : Voiced h
+  bits : map joinOf (left false m n vs e k i) ≡ clippedOf h ∷ map joinOf (left false m n vs e′ k′ (i + 1))
+  voice : Voiced (clippedOf h)
 
 hears : {m n e k i e′ k′ : ℕ} {vs : List Float} {h : Heard} → Place false m n vs e k i → i < n → Hears m n vs e k h k′ e′ → Next m n vs e k i e′ k′ h
-hears {m} {n} {e} {k} {vs = vs} p b t =
+unfolding joinOf
+hears {m} {n} {e} {k} {vs = vs} {h = h} p b t =
     let c = copiesAt false (2 * n) (2 * m) e in
     let l = length-take-le c (drop k vs) (rw length-drop (omega (arith, place-room p b))) in
     let next = ap (map joinOf) (left-next p b (t .1) (t .2)) in
-    record { place = place-next p b (t .1) (t .2); bits = rw (← t .0) at next; voice = voiced (take c (drop k vs)) (t .0) (omega (arith, l)) (t .3) }
+    let q : clippedOf h ≡ joinOf (take c (drop k vs)) = ap clippedOf (t .0) in
+    record { place = place-next p b (t .1) (t .2); bits = rw (← q) at next; voice = voiced (take c (drop k vs)) q (omega (arith, l)) (rw (clip-heard h) (clip-fits (valueOf h) (t .3))) }
 
 -- l has the first i bits
 abbrev Held : ℕ → ℕ → List Float → List Heard → Link → ℕ → ℕ → ℕ → Type 0
@@ -60,7 +62,7 @@ there : (i last n : ℕ) → i < last → last ≤ n - 3 → (i < n) × (i + 1 <
 there i last n h k = (omega arith, omega arith, omega arith, omega arith)
 
 turn : {m n e k i e′ k′ : ℕ} {vs : List Float} {all : List Heard} {l l′ : Link} {h : Heard} → Held m n vs all l e k i → i < n
-    → Hears m n vs e k h k′ e′ → l′ ≡ withHeard l i h → Held m n vs all l′ e′ k′ (i + 1)
+    → Hears m n vs e k h k′ e′ → l′ ≡ withHeard l i (clippedOf h) → Held m n vs all l′ e′ k′ (i + 1)
 turn w b t q = let x = hears (w .0) b t in (x .place, survey-turn (w .1) (x .bits) q)
 
 done : {m n e k i : ℕ} {vs : List Float} {all : List Heard} {l : Link} → Held m n vs all l e k i → n ≤ i → l ≡ linkOf all
@@ -79,67 +81,77 @@ Inv-loop2 values n start m p q e₀ k₀ i₀ last l₀ e k i l = Held m n value
 abbrev μ-loop2 : tie.MeasureT-loop2
 μ-loop2 values n start m p q e₀ k₀ i₀ last l₀ e k i l = n - i
 
-mul-p : tie.Need-mul-p Inv-loop μ-loop Inv-loop2 μ-loop2
-mul-p c = omega (arith, c .before .pre .0 .few)
-
-mul-q : tie.Need-mul-q Inv-loop μ-loop Inv-loop2 μ-loop2
-mul-q c = omega (arith, c .before .pre .0 .most)
-
-hear-sent-requires : tie.Need-hear-sent-requires Inv-loop μ-loop Inv-loop2 μ-loop2
-hear-sent-requires c κs =
-    let u = c .before in
-    let a = u .args in
-    let p = place-start false (a .m) (a .n) (a .start) (now (a .values)) (u .pre .0) (u .pre .1) in
-    let b = begins false (a .m) (a .n) (length (now (a .values))) (a .start) (u .pre .0) (u .pre .1) in
-    asks p (b .0)
-
 new-requires : tie.Need-new-requires Inv-loop μ-loop Inv-loop2 μ-loop2
 new-requires c κs = search needs
 
-with-requires : tie.Need-with-requires Inv-loop μ-loop Inv-loop2 μ-loop2
-with-requires c κs = omega (arith, survey-start [] (c .new .ensures) .counted)
+returns : tie.Need-returns Inv-loop μ-loop Inv-loop2 μ-loop2
+unfolding sharedFrom
+returns c =
+    let a = c .before .before .before .args in
+    c .new .ensures
+    ∙ sym (ap linkOf (heard-by false (a .m) (a .n) (a .start) (now (a .values)) (λ q. absurd (false≢true q)) ∙ ap (λ (n : ℕ). map joinOf (sharedFrom false (2 * a .n) (2 * a .m) (a .start) n (now (a .values)))) (c .before .if1 .taken)))
+
+mul-p : tie.Need-mul-p Inv-loop μ-loop Inv-loop2 μ-loop2
+mul-p c = omega (arith, c .before .before .pre .0 .few)
+
+mul-q : tie.Need-mul-q Inv-loop μ-loop Inv-loop2 μ-loop2
+mul-q c = omega (arith, c .before .before .pre .0 .most)
+
+hear-sent-requires : tie.Need-hear-sent-requires Inv-loop μ-loop Inv-loop2 μ-loop2
+hear-sent-requires c κs =
+    let u = c .before .before in
+    let a = u .args in
+    let some : 0 < a .n = omega arith in
+    let p = place-start false (a .m) (a .n) (a .start) (now (a .values)) (u .pre .0) (u .pre .1 some) (λ q. absurd (false≢true q)) in
+    asks p some
 
 new-requires-2 : tie.Need-new-requires-2 Inv-loop μ-loop Inv-loop2 μ-loop2
 new-requires-2 c κs = search needs
+
+with-requires : tie.Need-with-requires Inv-loop μ-loop Inv-loop2 μ-loop2
+with-requires c κs = omega (arith, survey-start [] (c .new2 .ensures) .counted)
+
+new-requires-3 : tie.Need-new-requires-3 Inv-loop μ-loop Inv-loop2 μ-loop2
+new-requires-3 c κs = search needs
 
 sub-last : tie.Need-sub-last Inv-loop μ-loop Inv-loop2 μ-loop2
 sub-last c = omega arith
 
 loop-holds : tie.Need-loop-holds Inv-loop μ-loop Inv-loop2 μ-loop2
 loop-holds c =
-    let u = c .before .before .before .before .before .before in
+    let u = c .before .before .before .before .before .before .before in
     let a = u .args in
     let v = now (a .values) in
     let z : a .n - 0 ≡ a .n = omega arith in
-    let p = place-start false (a .m) (a .n) (a .start) v (u .pre .0) (u .pre .1) in
-    let b = begins false (a .m) (a .n) (length v) (a .start) (u .pre .0) (u .pre .1) in
+    let some : 0 < a .n = omega arith in
+    let p = place-start false (a .m) (a .n) (a .start) v (u .pre .0) (u .pre .1 some) (λ q. absurd (false≢true q)) in
     let all = heardOf (signedBy false (a .m)) (a .n) (a .start) v in
-    let new = c .before .before .before .new in
+    let new = c .before .before .before .new2 in
     let s : Surveying all (new .result) 0 (map joinOf (left false (a .m) (a .n) v (a .start) 0 0)) =
-    rw (z, ← heard-by false (a .m) (a .n) (a .start) v (u .pre .1)) (survey-start all (new .ensures)) in
+    rw (z, ← heard-by false (a .m) (a .n) (a .start) v (λ q. absurd (false≢true q))) (survey-start all (new .ensures)) in
     let h = c .before .before .before .before .hear-sent in
-    let x = hears p (b .0) (h .ensures) in
-    let w = turn (p, s) (b .0) (h .ensures) (c .before .before .with .ensures) in
-    let d = deal-start (new .result) (h .result .heard) (ap (λ (l : Link). l .punctured) (new .ensures ∙ link-none)) (c .before .before .with .ensures) (x .voice) (c .before .new2 .ensures) (w .1) in
-    (x .place, d, ⊎-elim (λ w. omega (arith, w)) (λ w. omega (arith, w)) (c .if1 .came))
+    let x = hears p some (h .ensures) in
+    let w = turn (p, s) some (h .ensures) (c .before .before .with .ensures) in
+    let d = deal-start (new .result) (clippedOf (h .result .heard)) (ap (λ (l : Link). l .punctured) (new .ensures ∙ link-none)) (c .before .before .with .ensures) (x .voice) (c .before .new3 .ensures) (w .1) in
+    (x .place, d, ⊎-elim (λ w. omega (arith, w)) (λ w. omega (arith, w)) (c .if2 .came))
 
 hear-sent-requires-2 : tie.Need-hear-sent-requires-2 Inv-loop μ-loop Inv-loop2 μ-loop2
 hear-sent-requires-2 c κs =
     let l = c .before .loop in
-    let b = there (l .i) (c .before .before .if1 .last) (c .before .before .before .before .before .before .before .before .args .n) (c .loop-test .taken) (l .inv .2) in
+    let b = there (l .i) (c .before .before .if2 .last) (c .before .before .before .before .before .before .before .before .before .args .n) (c .loop-test .taken) (l .inv .2) in
     asks (l .inv .0) (b .0)
 
 hear-sent-requires-3 : tie.Need-hear-sent-requires-3 Inv-loop μ-loop Inv-loop2 μ-loop2
 hear-sent-requires-3 c κs =
     let l = c .before .before .loop in
-    let b = there (l .i) (c .before .before .before .if1 .last) (c .before .before .before .before .before .before .before .before .before .args .n) (c .before .loop-test .taken) (l .inv .2) in
+    let b = there (l .i) (c .before .before .before .if2 .last) (c .before .before .before .before .before .before .before .before .before .before .args .n) (c .before .loop-test .taken) (l .inv .2) in
     let x = hears (l .inv .0) (b .0) (c .hear-sent2 .ensures) in
     asks (x .place) (b .1)
 
 hear-sent-requires-4 : tie.Need-hear-sent-requires-4 Inv-loop μ-loop Inv-loop2 μ-loop2
 hear-sent-requires-4 c κs =
     let l = c .before .before .before .loop in
-    let b = there (l .i) (c .before .before .before .before .if1 .last) (c .before .before .before .before .before .before .before .before .before .before .args .n) (c .before .before .loop-test .taken) (l .inv .2) in
+    let b = there (l .i) (c .before .before .before .before .if2 .last) (c .before .before .before .before .before .before .before .before .before .before .before .args .n) (c .before .before .loop-test .taken) (l .inv .2) in
     let x = hears (l .inv .0) (b .0) (c .before .hear-sent2 .ensures) in
     let y = hears (x .place) (b .1) (c .hear-sent3 .ensures) in
     asks (y .place) (b .2)
@@ -147,7 +159,7 @@ hear-sent-requires-4 c κs =
 hear-sent-requires-5 : tie.Need-hear-sent-requires-5 Inv-loop μ-loop Inv-loop2 μ-loop2
 hear-sent-requires-5 c κs =
     let l = c .before .before .before .before .loop in
-    let b = there (l .i) (c .before .before .before .before .before .if1 .last) (c .before .before .before .before .before .before .before .before .before .before .before .args .n) (c .before .before .before .loop-test .taken) (l .inv .2) in
+    let b = there (l .i) (c .before .before .before .before .before .if2 .last) (c .before .before .before .before .before .before .before .before .before .before .before .before .args .n) (c .before .before .before .loop-test .taken) (l .inv .2) in
     let x = hears (l .inv .0) (b .0) (c .before .before .hear-sent2 .ensures) in
     let y = hears (x .place) (b .1) (c .before .hear-sent3 .ensures) in
     let z = hears (y .place) (b .2) (c .hear-sent4 .ensures) in
@@ -167,12 +179,12 @@ loop-less c = omega arith
 loop-again : tie.Need-loop-again Inv-loop μ-loop Inv-loop2 μ-loop2
 loop-again c =
     let l = c .before .before .before .before .before .before .loop in
-    let u = c .before .before .before .before .before .before .before .before .before .before .before .before .before in
+    let u = c .before .before .before .before .before .before .before .before .before .before .before .before .before .before in
     let a = u .args in
     let v = now (a .values) in
     let all = heardOf (signedBy false (a .m)) (a .n) (a .start) v in
     let h = c .before .hear-sent5 in
-    let last = c .before .before .before .before .before .before .before .if1 .last in
+    let last = c .before .before .before .before .before .before .before .if2 .last in
     let b = there (l .i) last (a .n) (c .before .before .before .before .before .loop-test .taken) (l .inv .2) in
     let x = hears (l .inv .0) (b .0) (c .before .before .before .before .hear-sent2 .ensures) in
     let y = hears (x .place) (b .1) (c .before .before .before .hear-sent3 .ensures) in
@@ -214,23 +226,25 @@ loop2-again c =
     let l = c .before .before .before .loop2 in
     turn (l .inv) (omega arith) (c .before .hear-sent6 .ensures) (c .with3 .ensures)
 
-returns : tie.Need-returns Inv-loop μ-loop Inv-loop2 μ-loop2
-returns c = done (c .before .loop2 .inv) (omega arith)
+returns-2 : tie.Need-returns-2 Inv-loop μ-loop Inv-loop2 μ-loop2
+returns-2 c = done (c .before .loop2 .inv) (omega arith)
 
-pub link-copies-spec : {M : Type 1} → statement M
-link-copies-spec =
+pub link-sent-spec : {M : Type 1} → statement M
+link-sent-spec =
     tie.close
     (tie.spec
     Inv-loop
     μ-loop
     Inv-loop2
     μ-loop2
+    new-requires
+    returns
     mul-p
     mul-q
     hear-sent-requires
-    new-requires
-    with-requires
     new-requires-2
+    with-requires
+    new-requires-3
     sub-last
     loop-holds
     hear-sent-requires-2
@@ -248,4 +262,4 @@ link-copies-spec =
     add-i-2
     loop2-less
     loop2-again
-    returns)
+    returns-2)
