@@ -4,8 +4,8 @@ use mathlib.Core.Path.{_≡_, refl, sym, ap, ap₂, _∙_, subst}
 use mathlib.Core.Logic.{_↔_}
 use mathlib.Core.Bool.{true, false}
 use mathlib.Core.List.{List}
-use Prim.Native.Nat.{ℕ, zero, suc, _+_, _*_, _/_, _%_, _≤_, _<_}
-use native.Mathlib.Nat.{mod-eq-of-lt, div-add-mod'}
+use Prim.Native.Nat.{ℕ, zero, suc, min, _+_, _*_, _/_, _%_, _≤_, _<_}
+use native.Mathlib.Nat.{min-le-right, mod-eq-of-lt, div-add-mod'}
 use native.Mathlib.Omega.{arith}
 use lib.IntN.{pos, negℤ}
 use lib.Ieee.{Float, nan, binary32, ofInt, round}
@@ -32,8 +32,7 @@ use Rattle.frame.proofs.ContentLaws.{length-contents, length-bits}
 use Rattle.naming.specs.Name.{bitNumber, NamedBy}
 use Rattle.naming.proofs.Nowhere.{named-iff}
 use Rattle.joining.specs.Joining.{plusZero, homeOf}
-use Rattle.joining.specs.Whole.{Whole, bound, lesser, soft, counted}
-use Rattle.joining.proofs.ClipLaws.{lesser-most}
+use Rattle.joining.specs.Whole.{Whole, bound, soft, counted}
 use Rattle.joining.proofs.CopyLaws.{home-copies}
 use Rattle.homing.specs.Home.{heardIn, segmentHome, channelStart, finishedOf}
 use Rattle.homing.specs.Received.{segmentAt, takenAll, softFrame, Received, LastOf, copiesIn, signedCount}
@@ -43,7 +42,7 @@ use Rattle.homing.proofs.Kept.{segment-value, last-taken}
 -- ---- plus or minus a number of copies, as a float
 
 counted-none : (b : ℕ) → counted b 0 ≡ plusZero
-unfolding lesser counted ofInt round
+unfolding counted ofInt round
 counted-none zero = refl
 counted-none (suc b) = refl
 
@@ -55,9 +54,9 @@ whole-minus (suc n) h = record { sign = true; size = suc n; value = round-whole 
 counted-whole : (b c : ℕ) → Whole (counted b c) (signedCount b c)
 unfolding counted ofInt
 counted-whole zero c =
-    let n = lesser c bound in
-    record { sign = false; size = n; value = round-whole binary32 false n (omega (arith, lesser-most c bound)); is = refl }
-counted-whole (suc b) c = whole-minus (lesser c bound) (lesser-most c bound)
+    let n = min c bound in
+    record { sign = false; size = n; value = round-whole binary32 false n (omega (arith, min-le-right c bound)); is = refl }
+counted-whole (suc b) c = whole-minus (min c bound) (min-le-right c bound)
 
 -- ---- one frame of such bits
 

@@ -3,10 +3,10 @@
 use mathlib.Core.Path.{_≡_, refl, sym, ap, _∙_}
 use mathlib.Core.Bool.{Bool, true, false, cond, _&&_, _||_, true≢false, false≢true}
 use mathlib.Core.Logic.{_≢_}
-use Prim.Native.Nat.{ℕ, zero, suc, _+_, _*_, _^_, _≤_, _<_}
-use native.Mathlib.Nat.{mul-le-mul-right, le-of-mul-le-mul-right}
+use Prim.Native.Nat.{ℕ, zero, suc, min, _+_, _*_, _^_, _≤_, _<_}
+use native.Mathlib.Nat.{le-of-lt, min-eq-left, min-eq-right, min-le-right, mul-le-mul-right, le-of-mul-le-mul-right}
 use native.Mathlib.Omega.{arith}
-use borrow.Author.Tests.{lt-ltb, le-ltb, ltb-true, le-leb, lt-leb, ne-eqb, eq-eqb}
+use borrow.Author.Tests.{lt-ltb, le-ltb, ltb-true, ne-eqb, eq-eqb}
 use lib.Dec.{T, ltb, eqb}
 use lib.IntN.{ℤ, pos}
 use lib.Ieee.{Float, nan, inf, fin, binary32, up, down, round, lt, le, fits}
@@ -19,7 +19,7 @@ use Rattle.joining.specs.declared.Heard.{Heard}
 use Rattle.joining.specs.declared.Heard.the-variants.{Nothing, Once, Joined}
 use Rattle.joining.specs.Joining.{utmost, nethermost, clipped, clippedOf, plusZero, valueOf}
 use Rattle.joining.specs.Linked.{capped, magnitudeOf}
-use Rattle.joining.specs.Whole.{Whole, bound, lesser, bounded, Under}
+use Rattle.joining.specs.Whole.{Whole, bound, bounded, Under}
 
 -- ---- by the tests of the definition
 
@@ -182,34 +182,20 @@ magnitude-clip (fin s (suc m) e) =
 
 -- ---- a whole value
 
-lesser-own : (a b : ℕ) → a ≤ b → lesser a b ≡ a
-unfolding lesser
-lesser-own a b h = rw (le-leb a b h)
-
-lesser-other : (a b : ℕ) → b < a → lesser a b ≡ b
-unfolding lesser
-lesser-other a b h = rw (lt-leb a b h)
-
-pub lesser-most : (a b : ℕ) → lesser a b ≤ b
-lesser-most a b = split a b (λ le. rw (lesser-own a b le) le) (λ lt. rw (lesser-other a b lt) (omega arith))
-
-pub lesser-some : (n : ℕ) → 0 < lesser (suc n) bound
-lesser-some n = split (suc n) bound (λ le. rw (lesser-own (suc n) bound le) (omega arith)) (λ lt. rw (lesser-other (suc n) bound lt) (omega arith))
-
-clip-value : (x : Float) (s : Bool) (a : ℕ) → HasValue x s a 1 → HasValue (clipped x) s (lesser a bound) 1
+clip-value : (x : Float) (s : Bool) (a : ℕ) → HasValue x s a 1 → HasValue (clipped x) s (min a bound) 1
 clip-value nan s a v = absurd v
 clip-value (inf t) s a v = absurd v
 clip-value (fin p m e) s a v =
-    clip-either (λ x. HasValue x s (lesser a bound) 1) p m e
+    clip-either (λ x. HasValue x s (min a bound) 1) p m e
     (λ l.
     let k : a * down e ≤ 1024 * down e = omega (arith, v .1) in
-    rw (lesser-own a 1024 (le-of-mul-le-mul-right k (down-pos e))) v)
+    rw (min-eq-left (le-of-mul-le-mul-right k (down-pos e))) v)
     (λ l.
     let k : 1024 < a = split a 1024 (λ le. absurd (omega (arith, v .1, mul-le-mul-right (down e) le))) (λ lt. lt) in
-    rw (lesser-other a 1024 k) (v .0, refl))
+    rw (min-eq-right (le-of-lt k)) (v .0, refl))
 
-bounded-by : (s : Bool) (n : ℕ) → signedBy s (lesser n bound) ≡ bounded (signedBy s n)
-unfolding lesser bounded
+bounded-by : (s : Bool) (n : ℕ) → signedBy s (min n bound) ≡ bounded (signedBy s n)
+unfolding bounded
 bounded-by false n = refl
 bounded-by true zero = refl
 bounded-by true (suc n) = refl
@@ -218,19 +204,19 @@ pub clip-whole : (x : Float) (z : ℤ) → Whole x z → Whole (clipped x) (boun
 clip-whole x z w =
     record {
       sign = w .sign;
-      size = lesser (w .size) bound;
+      size = min (w .size) bound;
       value = clip-value x (w .sign) (w .size) (w .value);
       is = bounded-by (w .sign) (w .size) ∙ ap bounded (w .is);
     }
 
-pub clip-round : (s : Bool) (n : ℕ) → n ≤ 2 ^ 24 → clipped (round binary32 s n 1) ≡ round binary32 s (lesser n bound) 1
+pub clip-round : (s : Bool) (n : ℕ) → n ≤ 2 ^ 24 → clipped (round binary32 s n 1) ≡ round binary32 s (min n bound) 1
 clip-round s n h =
     let r = round binary32 s n 1 in
-    let few = lesser-most n bound in
-    whole-unique binary32 (clipped r) (round binary32 s (lesser n bound) 1) s (lesser n bound)
-    (clip-fits r (round-fits binary32 s n 1)) (round-fits binary32 s (lesser n bound) 1)
+    let few = min-le-right n bound in
+    whole-unique binary32 (clipped r) (round binary32 s (min n bound) 1) s (min n bound)
+    (clip-fits r (round-fits binary32 s n 1)) (round-fits binary32 s (min n bound) 1)
     (clip-value r s n (round-whole binary32 s n h))
-    (round-whole binary32 s (lesser n bound) (omega (arith, few)))
+    (round-whole binary32 s (min n bound) (omega (arith, few)))
 
 -- ---- -0.0 comes of -0.0 alone
 

@@ -2,7 +2,7 @@
 use mathlib.Core.Path.{_≡_, refl, ap, _∙_}
 use mathlib.Core.Bool.{Bool, true, false}
 use mathlib.Core.List.{List}
-use Prim.Native.Nat.{ℕ, zero, suc, _+_, _^_, _≤_, _<_}
+use Prim.Native.Nat.{ℕ, zero, suc, min, _+_, _^_, _≤_, _<_}
 use native.Mathlib.Omega.{arith}
 use lib.IntN.{ℤ, pos, negℤ}
 use lib.ListN.{length, getD}
@@ -17,8 +17,8 @@ use Rattle.pattern.specs.Closed.{sentBefore}
 use Rattle.pattern.proofs.MatchedLaws.{sent-all, sent-more}
 use Rattle.pattern.proofs.SourceLaws.{sent-up}
 use Rattle.joining.specs.Joining.{sumOf, rawOf, clipped, clippedOf, joinOf, valueOf, homeOf}
-use Rattle.joining.specs.Whole.{bound, lesser, soft, counted}
-use Rattle.joining.proofs.ClipLaws.{clip-round, lesser-some}
+use Rattle.joining.specs.Whole.{bound, soft, counted}
+use Rattle.joining.proofs.ClipLaws.{clip-round}
 use Rattle.joining.proofs.MadeLaws.{join-value}
 use Rattle.joining.proofs.HomeLaws.{home-matched}
 use Rattle.joining.proofs.WholeLaws.{add-is, same-sum}
@@ -50,7 +50,7 @@ unfolding round
 one-round false = refl
 one-round true = refl
 
-ones : (s : Bool) (c : ℕ) → suc c ≤ mostBits → valueOf (joinOf (table (λ i. one s) 0 (suc c))) ≡ round binary32 s (lesser (suc c) bound) 1
+ones : (s : Bool) (c : ℕ) → suc c ≤ mostBits → valueOf (joinOf (table (λ i. one s) 0 (suc c))) ≡ round binary32 s (min (suc c) bound) 1
 unfolding table
 ones s c h =
     let e : 1 + c ≡ suc c = omega arith in
@@ -66,11 +66,11 @@ minus-int (suc n) h = refl
 
 -- plus or minus the lesser of the number of copies and 1,024, and +0.0 of none
 pub join-copies : (b c : ℕ) → c ≤ mostBits → valueOf (joinOf (table (λ j. soft b) 0 c)) ≡ counted b c
-unfolding table rawOf clippedOf joinOf valueOf soft lesser counted round ofInt
+unfolding table rawOf clippedOf joinOf valueOf soft counted round ofInt
 join-copies zero zero h = refl
 join-copies (suc b) zero h = refl
 join-copies zero (suc c) h = ones false c h
-join-copies (suc b) (suc c) h = ones true c h ∙ minus-int (lesser (suc c) bound) (lesser-some c)
+join-copies (suc b) (suc c) h = ones true c h ∙ minus-int (min (suc c) bound) (omega arith)
 
 -- no bit has more copies than values were sent
 copies-few : (d : ℤ) (N W e j : ℕ) → Rates d N W e → j < N → copiesOf d N e j ≤ W

@@ -21,7 +21,7 @@ use Rattle.sheet.specs.Counts.{mostBits}
 use Rattle.matching.specs.Signed.{signedBy}
 use Rattle.matching.proofs.SignedLaws.{magnitude}
 use Rattle.joining.specs.Joining.{sumOf, rawOf, clippedOf, joinOf, valueOf}
-use Rattle.joining.specs.Whole.{Whole, smallWhole, wholeOf, total, lesser, bounded}
+use Rattle.joining.specs.Whole.{Whole, smallWhole, wholeOf, total, bounded}
 use Rattle.joining.proofs.ClipLaws.{clip-whole}
 use Rattle.joining.proofs.MadeLaws.{join-value}
 
@@ -171,7 +171,7 @@ sum-whole x xs ws h =
     sum-exact xs x (wholeOf x) 1 (s .0) (omega (arith, s .1)) (none-rest smallWhole x xs ws) (omega arith)
 
 pub join-exact : (xs : List Float) → NoneFails smallWhole xs → length xs ≤ mostBits → Whole (valueOf (joinOf xs)) (bounded (total (map wholeOf xs)))
-unfolding rawOf clippedOf joinOf valueOf total lesser bounded
+unfolding rawOf clippedOf joinOf valueOf total bounded
 join-exact [] ws h = record { sign = false; size = 0; value = (refl, refl); is = refl }
 join-exact (x ∷ xs) ws h = rw (join-value x xs) (clip-whole (sumOf x xs) (total (map wholeOf (x ∷ xs))) (sum-whole x xs ws h))
 

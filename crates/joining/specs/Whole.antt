@@ -1,9 +1,9 @@
 -- "If all soft values of a frame are whole and at most 255 in magnitude, every sum is the exact whole sum", clipped: what whole is, the exact sum, and
 -- what clipping makes of it.
 use mathlib.Core.Path.{_≡_}
-use mathlib.Core.Bool.{Bool, true, false, cond, _&&_}
+use mathlib.Core.Bool.{Bool, true, false, _&&_}
 use mathlib.Core.List.{List, [], _∷_}
-use Prim.Native.Nat.{ℕ, zero, suc, _*_, _/_, _%_, _≤_}
+use Prim.Native.Nat.{ℕ, zero, suc, min, _*_, _/_, _%_, _≤_}
 use lib.Dec.{eqb, leb}
 use lib.IntN.{ℤ, pos, negℤ, natAbs, _+ℤ_}
 use lib.Ieee.{Float, nan, inf, fin, up, down, binary32, ofInt}
@@ -37,11 +37,8 @@ total (z ∷ zs) = z +ℤ total zs
 abbrev pub bound : ℕ
 bound = 1024
 
-unfoldable pub lesser : ℕ → ℕ → ℕ
-lesser a b = cond (leb a b) a b
-
 unfoldable pub bounded : ℤ → ℤ
-bounded z = signedBy (negative z) (lesser (natAbs z) bound)
+bounded z = signedBy (negative z) (min (natAbs z) bound)
 
 -- bits sent as +1 for 0 and -1 for 1 come home as "plus or minus the lesser of copies and 1,024", exactly, and as +0.0 where punctured
 unfoldable pub soft : ℕ → Float
@@ -49,8 +46,8 @@ soft zero = fin false 1 (pos 0)
 soft (suc b) = fin true 1 (pos 0)
 
 unfoldable pub counted : ℕ → ℕ → Float
-counted zero c = ofInt binary32 (pos (lesser c bound))
-counted (suc b) c = ofInt binary32 (negℤ (pos (lesser c bound)))
+counted zero c = ofInt binary32 (pos (min c bound))
+counted (suc b) c = ofInt binary32 (negℤ (pos (min c bound)))
 
 -- finite, and at most n in magnitude
 abbrev pub Under : Float → ℕ → Type 0
