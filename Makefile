@@ -25,6 +25,7 @@ CASES := tests/cases/sheet.txt tests/cases/frame.txt tests/cases/home.txt tests/
 ifeq ($(shell uname -m),x86_64)
 CC := gcc
 RUN :=
+SHIFTS := 16 32 48
 PACKAGES := gcc libc6-dev pkgconf
 else
 CC := x86_64-linux-gnu-gcc
@@ -57,7 +58,7 @@ test: setup
 	@tail -n 1 target/ci.log | grep -Ex '[0-9]+ passed, 0 failed'
 
 ctest: target/c/calls target/c/values target/c/vectors target/c/loop target/c/random target/c/home target/c/thinned target/c/nan \
-	target/c/picture target/c/tour target/c/sizes $(LISTER) $(PICTURE)
+	target/c/stack target/c/picture target/c/tour target/c/sizes $(LISTER) $(PICTURE)
 	$(RUN) target/c/calls
 	$(RUN) target/c/values
 	@run() { if [ -f "$$2" ]; then echo "$(RUN) target/c/vectors $$*"; $(RUN) target/c/vectors "$$@"; \
@@ -74,6 +75,7 @@ ctest: target/c/calls target/c/values target/c/vectors target/c/loop target/c/ra
 	$(RUN) target/c/home
 	$(RUN) target/c/thinned
 	$(RUN) target/c/nan
+	$(RUN) target/c/stack small
 	tests/lister.sh '$(LISTINGS)' $(RUN) $(LISTER)
 	tests/picture.sh $(PICTURE) target/c/picture $(RUN)
 	$(RUN) target/c/tour > target/c/tour.txt
@@ -99,7 +101,7 @@ PAPERS := $(KIT)/share/doc/ummervia
 install: $(ARCHIVE)
 	@mkdir -p target/kit
 	@sed -e 's|@PREFIX@|$(ROOT)|' -e 's|@RELEASE@|$(RELEASE)|' kit/ummervia.pc.in > target/kit/ummervia.pc
-	@sed -n 's/^| \(umv_[a-z_]*\) | \([0-9,]*\) |$$/.TP 24\n.B \1\n\2/p' docs/SPEED.md > target/kit/stack
+	@sed -n 's/^| \(umv_[a-z_]*\) | \([0-9,]*\) | \([0-9,]*\) |$$/.TP 24\n.B \1\n\2 (\3)/p' docs/SPEED.md > target/kit/stack
 	@sed -e 's|@RELEASE@|$(RELEASE)|' -e '/^@STACK@$$/{r target/kit/stack' -e 'd}' kit/ummervia.3.in > target/kit/ummervia.3
 	install -D -m 644 -t $(KIT)/lib $(ARCHIVE)
 	install -D -m 644 -t $(KIT)/include include/ummervia.h
@@ -123,12 +125,13 @@ soak: setup target/c/random target/c/thinned
 	$(RUN) target/c/random $$seed $(or $(CALLS),1000000); \
 	$(RUN) target/c/thinned $$seed $(or $(SHEETS),20000)
 
-# Instructions, counted: the same table on every machine with these compilers. Beside what setup installs it needs qemu
-# and the machine's own gcc, for the plugin that counts.
-bench: setup target/c/bench
+# Instructions, counted: the same table on every machine with these compilers; on x86-64 time too, by programs that have their code at
+# different places of a cache line. Beside what setup installs it needs qemu and the machine's own gcc, for the plugin that counts.
+BENCHES := target/c/bench $(SHIFTS:%=target/c/bench-%)
+bench: setup $(BENCHES)
 	@{ command -v qemu-x86_64 && command -v gcc; } > /dev/null || { apt-get update && \
 	apt-get install -y --no-upgrade --no-install-recommends qemu-user gcc libc6-dev; }
-	@bench/run target/c/bench
+	@bench/run $(BENCHES)
 
 # Bytes of stack that each call needs, measured: the same table wherever the same archive runs.
 stack: setup target/c/stack
@@ -159,6 +162,10 @@ target/c/%: examples/%.c include/ummervia.h $(ARCHIVE)
 target/c/%: bench/%.c include/ummervia.h $(ARCHIVE)
 	@mkdir -p $(@D)
 	$(CC) $(CFLAGS) -O3 $(filter %.c %.a,$^) -o $@
+
+target/c/bench-%: bench/bench.c include/ummervia.h $(ARCHIVE) $(REFERENCE)
+	@mkdir -p $(@D)
+	$(CC) $(CFLAGS) -O3 -DSHIFT=$* $(filter %.c %.a,$^) -o $@
 
 # Linked without the archive, so that nothing of the library is in it.
 target/c/tour: tests/tour.c $(REFERENCE)

@@ -1,18 +1,31 @@
 /*
  * bench IMPLEMENTATION CALL FRAME MODE MATCHING TIMES [INDEX]: makes one call TIMES times, for bench/run to count.
  *
- * IMPLEMENTATION is library or reference; CALL is build, take, heard, link, name or channel; FRAME (244, 2440, 54000, 54000x15; 2440c8
- * and 2440c16, with the number of channels behind the c; in uplink 8296u1:16, 8296u16:1, 2196u1:2, 2928u1:1, with the runs of the two
- * codes behind the u; of 1.28 Mcps, with an h for its two halves, 176h, 19712hx16, 8448hu1, 5984hu1:16, 1056hu1:1), MODE (0, 1) and
- * MATCHING (puncturing, repetition) choose the sheet. A name is asked for the place with this INDEX in the frame, from 0.
+ * IMPLEMENTATION is library or reference; CALL is build, take, heard, link, name or channel; FRAME (244, 2440, 54000, 60000; 240x8 and
+ * 54000x15, with the number of a slot's codes behind the x; 2440c8 and 2440c16, with the number of channels behind the c; in uplink
+ * 8296u1:16, 8296u16:1, 2196u1:2, 2928u1:1, with the runs of the two codes behind the u; of 1.28 Mcps, with an h for its two halves,
+ * 176h, 19712hx16, 8448hu1, 5984hu1:16, 1056hu1:1), MODE (0, 1) and MATCHING (puncturing, repetition; of 60000 repetition, both)
+ * choose the sheet. A name is asked for the place with this INDEX in the frame, from 0.
+ *
+ * bench time FRAME MODE MATCHING BATCHES: prints the nanoseconds of one call, best of so many batches, the plain C's and the
+ * library's in turn: building by either, taking back by either, and building by a table of the frame's places.
  */
+#define _POSIX_C_SOURCE 200809L
 #include <stdio.h>
 #include <stdlib.h>
 #include <string.h>
+#include <time.h>
 
 #include "../tests/implementation.h"
 
 enum { MOST = 60000, FRAME_NUMBER = 7 }; /* a frame number that is not 0 in any TTI of more than one frame */
+
+/* Bytes in front of both implementations' code: by where that lies its time moves by up to a third. */
+#ifdef SHIFT
+#define TEXT(number) #number
+#define SKIP(number) ".text\n.skip " TEXT(number)
+__asm__(SKIP(SHIFT));
+#endif
 
 struct channel_row {
     uint16_t tti, e, rm;
@@ -37,13 +50,16 @@ struct row {
 /* Channels of each TTI, of n bits a frame. */
 #define EACH_TTI(n) {0, (n), 200}, {1, 2 * (n), 190}, {2, 4 * (n), 210}, {3, 8 * (n), 195}
 
-/* One code of spreading factor 16; ten of them in three slots; a carrier with one code of spreading factor 1 in each of
-   its 15 slots; one with 15 codes in each. Uplink slots of two codes: spreading factors 16 and 1, 1 and 16, 16 and 8, 8 and 8.
+/* One code of spreading factor 16; eight with few bits in one slot; ten in three slots; a carrier with one code of spreading factor
+   1 in each of its 15 slots; one with 15 codes in each; the greatest frame, of 8 in each, which cannot have every channel punctured,
+   since the channels have at most 60,000 bits. Uplink slots of two codes: spreading factors 16 and 1, 1 and 16, 16 and 8, 8 and 8.
    Of 1.28 Mcps: one code of spreading factor 16; a carrier with 16 of them in each of its 7 slots; uplink slots of one code of
    spreading factor 1, of two of 16 and 1, and of two of 16. */
 static const struct row rows[] = {
     {"244", "puncturing", {{1, 600, 200}}, {1}, 244, {{0}}, 0},
     {"244", "repetition", {{1, 400, 200}}, {1}, 244, {{0}}, 0},
+    {"240x8", "puncturing", {EACH_TTI(75)}, {8}, 30, {{0}}, 0},
+    {"240x8", "repetition", {EACH_TTI(50)}, {8}, 30, {{0}}, 0},
     {"2440", "puncturing", {{0, 1200, 180}, {1, 2400, 200}, {2, 2400, 190}}, {4, 3, 3}, 244, {{0}}, 0},
     {"2440", "repetition", {{0, 800, 180}, {1, 1600, 200}, {2, 1600, 190}}, {4, 3, 3}, 244, {{0}}, 0},
     {"2440c8", "puncturing", {EACH_TTI(376), EACH_TTI(376)}, {4, 3, 3}, 244, {{0}}, 0},
@@ -62,6 +78,8 @@ static const struct row rows[] = {
     {"54000", "repetition", {{0, 13000, 200}, {0, 13000, 190}, {0, 13000, 210}, {1, 8000, 200}, {2, 8000, 200}}, {1, 1, 1, 1, 1, 1, 1, 1, 1, 1, 1, 1, 1, 1, 1}, 3600, {{0}}, 0},
     {"54000x15", "puncturing", {{0, 14500, 200}, {0, 14500, 204}, {0, 14500, 196}, {0, 14500, 200}, {1, 1600, 200}}, {15, 15, 15, 15, 15, 15, 15, 15, 15, 15, 15, 15, 15, 15, 15}, 240, {{0}}, 0},
     {"54000x15", "repetition", {{0, 13000, 200}, {0, 13000, 190}, {0, 13000, 210}, {1, 8000, 200}, {2, 8000, 200}}, {15, 15, 15, 15, 15, 15, 15, 15, 15, 15, 15, 15, 15, 15, 15}, 240, {{0}}, 0},
+    {"60000", "repetition", {{0, 15000, 200}, {0, 15000, 190}, {0, 15000, 210}, {1, 14000, 195}}, {8, 8, 8, 8, 8, 8, 8, 8, 8, 8, 8, 8, 8, 8, 8}, 500, {{0}}, 0},
+    {"60000", "both", {{0, 16000, 160}, {0, 16000, 220}, {0, 15000, 150}, {1, 13000, 230}}, {8, 8, 8, 8, 8, 8, 8, 8, 8, 8, 8, 8, 8, 8, 8}, 500, {{0}}, 0},
     {"176h", "puncturing", {{1, 440, 200}}, {1}, 88, {{0}}, 1},
     {"176h", "repetition", {{1, 280, 200}}, {1}, 88, {{0}}, 1},
     {"19712hx16", "puncturing", {{0, 9000, 200}, {1, 16000, 190}, {2, 16000, 210}, {3, 16000, 195}}, {16, 16, 16, 16, 16, 16, 16}, 88, {{0}}, 1},
@@ -76,6 +94,7 @@ static const struct row rows[] = {
 
 static uint8_t sheet[UMV_SHEET_MOST], contents[MOST], frame[MOST], expected[MOST];
 static float soft[MOST], taken[MOST], right[MOST];
+static uint32_t table[MOST];
 static size_t sheet_len, contents_len, frame_len, joined_len;
 
 static void fail(const char *what)
@@ -124,18 +143,21 @@ static void make_sheet(const struct row *row, uint16_t mode)
     sheet_len = length;
 }
 
-/* The sheet has as many bits as the row says, and every channel is matched as it says. */
+/* The sheet has as many bits as the row says, and every channel is matched as it says: in "both" half of them are punctured. */
 static void check_sheet(const struct row *row)
 {
-    uint64_t channels, slots, sum, capacity, joined, f, e, n, v;
+    uint64_t channels, slots, sum, capacity, joined, f, e, n, v, punctured = 0;
     ref_sizes(sheet, sheet_len, &channels, &slots, &sum, &capacity, &joined);
     if (capacity != strtoul(row->frame, NULL, 10))
         fail("the frame has another size");
     for (uint32_t trch = 1; trch <= channels; trch++) {
         ref_channel(sheet, sheet_len, trch, &f, &e, &n, &v);
-        if (v == n || (v < n) != (strcmp(row->matching, "puncturing") == 0))
-            fail("a channel is matched otherwise");
+        if (v == n)
+            fail("a channel is not matched");
+        punctured += v < n;
     }
+    if (punctured != (strcmp(row->matching, "puncturing") == 0 ? channels : strcmp(row->matching, "both") == 0 ? channels / 2 : 0))
+        fail("a channel is matched otherwise");
     contents_len = sum;
     frame_len = capacity;
     joined_len = joined;
@@ -233,8 +255,89 @@ static void channel(const struct implementation *measured, unsigned long times)
             fail("the channel is refused");
 }
 
+/* table[i]: which of the contents' bits, from 1, stands at place i, 0 for one that was added; found by building the bits of these
+   numbers, one after the other. */
+static void make_table(void)
+{
+    static uint8_t digits[MOST];
+    uint64_t at;
+    memset(table, 0, sizeof table);
+    for (unsigned b = 0; MOST >> b > 0; b++) {
+        for (size_t i = 0; i < contents_len; i++)
+            digits[i] = (i + 1) >> b & 1;
+        ref_build(sheet, sheet_len, FRAME_NUMBER, digits, contents_len, expected, frame_len, &at);
+        for (size_t i = 0; i < frame_len; i++)
+            table[i] |= (uint32_t)expected[i] << b;
+    }
+}
+
+/* What no way of building can be faster than: one load and one store a place, out of bits that have a 0 in front of them. */
+static void look_up(unsigned long times)
+{
+    static uint8_t led[MOST + 1];
+    memcpy(led + 1, contents, contents_len);
+    for (; times > 0; times--) {
+        for (size_t i = 0; i < frame_len; i++)
+            frame[i] = led[table[i]];
+        __asm__ volatile("" ::: "memory");
+    }
+}
+
+/* Not those of this program alone, which the system counts too low now and then, so that the best would be wrong. */
+static double seconds(void)
+{
+    struct timespec now;
+    clock_gettime(CLOCK_MONOTONIC, &now);
+    return (double)now.tv_sec + (double)now.tv_nsec * 1e-9;
+}
+
+/* The calls that are timed, each so many times: the buffers are made before. */
+static void timed(unsigned which, unsigned long times)
+{
+    const struct implementation *measured = which % 2 == 0 ? &reference : &library;
+    uint64_t at;
+    uint32_t refused = 0;
+    if (which == 4)
+        look_up(times);
+    else if (which < 2)
+        for (; times > 0; times--)
+            refused |= measured->build(sheet, sheet_len, FRAME_NUMBER, contents, contents_len, frame, frame_len, &at);
+    else
+        for (; times > 0; times--)
+            refused |= measured->take_back(sheet, sheet_len, FRAME_NUMBER, soft, frame_len, taken, joined_len, &at);
+    if (refused != 0)
+        fail("a timed call is refused");
+}
+
+static void print_times(unsigned long batches)
+{
+    enum { CALLS = 5, BITS = 50000 }; /* a batch is so short that other programs seldom interrupt it, the slower call's too */
+    const unsigned long times = BITS / (frame_len + 500) + 1;
+    double best[CALLS];
+    make_soft();
+    make_table();
+    for (unsigned long batch = 0; batch < batches; batch++)
+        for (unsigned which = 0; which < CALLS; which++) {
+            timed(which, 1); /* brings back to the caches what the other calls took out */
+            const double begun = seconds();
+            timed(which, times);
+            const double one = (seconds() - begun) / (double)times * 1e9;
+            best[which] = batch == 0 || one < best[which] ? one : best[which];
+        }
+    for (unsigned which = 0; which < CALLS; which++)
+        printf("%.0f%c", best[which], which + 1 < CALLS ? ' ' : '\n');
+}
+
 int main(int argc, char **argv)
 {
+    if (argc == 6 && strcmp(argv[1], "time") == 0) {
+        const struct row *row = row_of(argv[2], argv[4]);
+        make_sheet(row, (uint16_t)strtoul(argv[3], NULL, 10));
+        check_sheet(row);
+        make_contents();
+        print_times(strtoul(argv[5], NULL, 10));
+        return 0;
+    }
     if (argc < 7)
         fail("arguments are missing");
     const struct implementation *measured = strcmp(argv[1], library.name) == 0 ? &library : &reference;

@@ -1,9 +1,13 @@
 /*
  * stack: prints, for each public call, how many bytes of stack it needs: first on the greatest frame, of 60,000 places in 15 slots
- * of 16 PhCHs or of two uplink codes, or in 5 of each of two sub-frames (1.28 Mcps), the most of all these; then on five frames of
- * 1.28 Mcps. Channels are of all TTIs, some punctured and some repeated. Each is the most of both modes, accepted and, where a
+ * of 16 PhCHs or of two uplink codes, or in 5 of each of two sub-frames (1.28 Mcps), the most of all these; then on a frame of 244
+ * places, one code with one channel, punctured or repeated, the more of both; then on five frames of 1.28 Mcps. There and in the
+ * greatest, channels are of all TTIs, some punctured and some repeated. Each is the most of both modes, accepted and, where a
  * call looks at values, with the last of them bad. A call runs on a stack of its own, filled with one byte; the deepest byte that
  * it changed is looked for. What a function that does nothing needs there is taken off.
+ *
+ * stack small: fails if a call needs more than SMALL_MOST in the frame of 244: whether the function with the rooms of large frames is
+ * drawn into its caller, so that small ones touch its stack, the compiler decides and does not say.
  */
 #define _DEFAULT_SOURCE /* MAP_ANONYMOUS */
 #include <stdbool.h>
@@ -16,24 +20,29 @@
 #include "ummervia.h"
 
 enum {
-    MOST = 60000,      /* bits of the greatest frame, and of all channels equalised */
+    MOST = 60000,       /* bits of the greatest frame, and of all channels equalised */
     CHANNELS = UMV_CHANNELS_MOST,
-    MOST_N = 2040,     /* bits of a segment in other frames: a TTI of eight frames has at most 16,383 */
-    FRAME_NUMBER = 7,  /* not 0 in any TTI of more than one frame */
-    ROOM = 4 << 20     /* bytes of the stack; as many below it may not be touched */
+    MOST_N = 2040,      /* bits of a segment in other frames: a TTI of eight frames has at most 16,383 */
+    SMALL_MOST = 40000, /* bytes of stack in a frame of 244 */
+    FRAME_NUMBER = 7,   /* not 0 in any TTI of more than one frame */
+    ROOM = 4 << 20      /* bytes of the stack; as many below it may not be touched */
 };
 
 /* Every slot has so many codes, the first of `first` places and the others of `others`. */
 struct shape {
     uint16_t lcr, uplink, slots, codes, first, others;
+    uint16_t e; /* of the only channel; 0 for several */
 };
 
 static const struct shape greatest[] = {
-    {0, 0, 15, 16, 250, 250}, {0, 1, 15, 2, 2000, 2000}, {1, 0, 5, 16, 375, 375}, {1, 1, 5, 2, 3000, 3000}};
+    {0, 0, 15, 16, 250, 250, 0}, {0, 1, 15, 2, 2000, 2000, 0}, {1, 0, 5, 16, 375, 375, 0}, {1, 1, 5, 2, 3000, 3000, 0}};
+
+/* The frame 244 of bench/run, punctured and repeated. */
+static const struct shape small[] = {{0, 0, 1, 1, 244, 0, 600}, {0, 0, 1, 1, 244, 0, 400}};
 
 /* One code of 88 bits; 7 slots of 16 of them; uplink slots of one code, and twice of two. bench/stack has their names. */
 static const struct shape lcr_frames[] = {
-    {1, 0, 1, 1, 88, 0}, {1, 0, 7, 16, 88, 88}, {1, 1, 3, 1, 1408, 0}, {1, 1, 2, 2, 88, 1408}, {1, 1, 3, 2, 88, 88}};
+    {1, 0, 1, 1, 88, 0, 0}, {1, 0, 7, 16, 88, 88, 0}, {1, 1, 3, 1, 1408, 0, 0}, {1, 1, 2, 2, 88, 1408, 0}, {1, 1, 3, 2, 88, 88, 0}};
 
 static const struct shape *shape;
 static uint16_t fields[UMV_FIELDS];
@@ -47,6 +56,14 @@ static void fail(const char *what)
 {
     fprintf(stderr, "stack: %s\n", what);
     exit(2);
+}
+
+static void make_channel(void)
+{
+    fields[UMV_FIELD_CHANNELS] = 1;
+    fields[UMV_FIELD_TTI] = 1;
+    fields[UMV_FIELD_E] = shape->e;
+    fields[UMV_FIELD_RM] = 200;
 }
 
 /* The greatest frame has 12 x 3,752 and 4 x 3,744 encoded bits, 60,000 equalised; another four channels of as many bits a frame. No
@@ -78,7 +95,10 @@ static void make_fields(uint16_t mode)
         for (unsigned p = 0; p < shape->codes; p++)
             fields[UMV_FIELD_CAPACITIES + 16 * t + p] = p == 0 ? shape->first : shape->others;
     }
-    make_channels((shape->lcr + 1u) * shape->slots * (shape->first + (shape->codes - 1u) * shape->others));
+    if (shape->e != 0)
+        make_channel();
+    else
+        make_channels((shape->lcr + 1u) * shape->slots * (shape->first + (shape->codes - 1u) * shape->others));
 }
 
 static void make_sheet(uint16_t mode)
@@ -101,7 +121,7 @@ static void make_sheet(uint16_t mode)
         punctured += v < last_n;
         repeated += v > last_n;
     }
-    if (punctured == 0 || repeated == 0)
+    if (shape->e != 0 ? punctured + repeated == 0 : punctured == 0 || repeated == 0)
         fail("no channel is punctured, or none repeated");
 }
 
@@ -170,6 +190,8 @@ static const struct row {
     {"umv_link", link, true},
 };
 
+#define ROWS (sizeof rows / sizeof *rows)
+
 /* ---- Their stack ---- */
 
 static unsigned char *room; /* its lowest byte */
@@ -223,7 +245,7 @@ static size_t needed(void (*call)(void), uint32_t number)
 }
 
 /* The most that a call needs on frames of this shape. */
-static size_t most_of(const struct row *row, const struct shape *of)
+static size_t most_on(const struct row *row, const struct shape *of)
 {
     size_t most = 0;
     shape = of;
@@ -237,19 +259,49 @@ static size_t most_of(const struct row *row, const struct shape *of)
     return most;
 }
 
-int main(void)
+/* The most of several shapes. */
+static size_t most_of(const struct row *row, const struct shape *shapes, size_t count)
+{
+    size_t most = 0;
+    for (size_t i = 0; i < count; i++) {
+        size_t bytes = most_on(row, &shapes[i]);
+        most = bytes > most ? bytes : most;
+    }
+    return most;
+}
+
+#define MOST_OF(row, shapes) most_of((row), (shapes), sizeof (shapes) / sizeof *(shapes))
+
+static void print_row(const struct row *row)
+{
+    printf("%s %zu %zu", row->name, MOST_OF(row, greatest), MOST_OF(row, small));
+    for (size_t k = 0; k < sizeof lcr_frames / sizeof *lcr_frames; k++)
+        printf(" %zu", most_on(row, &lcr_frames[k]));
+    puts("");
+}
+
+/* Whether every call stays within SMALL_MOST. */
+static bool check_small(void)
+{
+    size_t over = 0, most = 0;
+    for (size_t i = 0; i < ROWS; i++) {
+        size_t bytes = MOST_OF(&rows[i], small);
+        most = bytes > most ? bytes : most;
+        if (bytes <= SMALL_MOST)
+            continue;
+        printf("stack: %s needs %zu bytes in a frame of %d places, more than %d\n", rows[i].name, bytes, small->first, SMALL_MOST);
+        over++;
+    }
+    printf("stack: %zu calls in a frame of %d places: up to %zu bytes, %zu over %d\n", ROWS, small->first, most, over, SMALL_MOST);
+    return over == 0;
+}
+
+int main(int argc, char **argv)
 {
     make_room();
-    for (size_t i = 0; i < sizeof rows / sizeof *rows; i++) {
-        size_t most = 0;
-        for (size_t k = 0; k < sizeof greatest / sizeof *greatest; k++) {
-            size_t bytes = most_of(&rows[i], &greatest[k]);
-            most = bytes > most ? bytes : most;
-        }
-        printf("%s %zu", rows[i].name, most);
-        for (size_t k = 0; k < sizeof lcr_frames / sizeof *lcr_frames; k++)
-            printf(" %zu", most_of(&rows[i], &lcr_frames[k]));
-        puts("");
-    }
+    if (argc > 1 && strcmp(argv[1], "small") == 0)
+        return check_small() ? 0 : 1;
+    for (size_t i = 0; i < ROWS; i++)
+        print_row(&rows[i]);
     return 0;
 }

@@ -3,7 +3,7 @@ pub mod TurnLaws
 pub mod ContentLaws
 pub mod ShareLaws
 pub mod SpreadLaws
+pub mod BlockLaws
 pub mod SendLaws
 pub mod Example
 pub mod BitLaws
-pub mod RoomLaws

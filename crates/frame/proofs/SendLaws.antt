@@ -2,7 +2,7 @@
 use mathlib.Core.Path.{_≡_, refl, sym, ap, ap₂, _∙_, subst}
 use mathlib.Core.Bool.{Bool}
 use mathlib.Core.List.{List, []}
-use Prim.Native.Nat.{ℕ, _+_, _-_, _%_, _≤_, _<_}
+use Prim.Native.Nat.{ℕ, _+_, _*_, _-_, _%_, _≤_, _<_}
 use native.Mathlib.Nat.{mod-one}
 use native.Mathlib.Omega.{arith}
 use lib.IntN.{ℤ, natAbs}
@@ -16,9 +16,10 @@ use Rattle.laws.proofs.PartLaws.{part-length}
 use Rattle.laws.proofs.LaidLaws.{laid-joined}
 use Rattle.sheet.specs.Counts.{mostBits}
 use Rattle.sheet.specs.Fields.{ttiOf, encodedOf}
-use Rattle.sheet.specs.Sizes.{framesIn, segmentIn, framesOf, sizeOf, encodedAll, capacityAll}
+use Rattle.sheet.specs.Sizes.{framesIn, framesOf, sizeOf, encodedAll, capacityAll}
 use Rattle.sheet.specs.Range.{Accepted}
 use Rattle.sheet.specs.declared.Sheet.{Sheet}
+use Rattle.orders.specs.Orders.{orders, columnAt}
 use Rattle.orders.proofs.OrderLaws.{frames-bounds}
 use Rattle.matching.specs.Signed.{signedBy}
 use Rattle.matching.specs.Shares.{weightOf, cutOf, shareOf, changeOf}
@@ -28,30 +29,31 @@ use Rattle.opening.proofs.OpenLaws.{sizes-most, weighs, low-is, high-is, cut-ri
 use Rattle.opening.specs.Opened.{Opens}
 use Rattle.opening.specs.declared.Opened.{Opened}
 use Rattle.pattern.specs.Pattern.{asIs, matched, Segment}
+use Rattle.pattern.specs.Every.{every, Strided}
 use Rattle.pattern.proofs.StartLaws.{matched-start}
 use Rattle.matching.proofs.SignedLaws.{magnitude}
-use Rattle.interleaving.specs.First.{equalised, segmentOf, Segmenting}
+use Rattle.interleaving.specs.First.{equalised}
 use Rattle.interleaving.proofs.EqualisedLaws.{segments-hold, equalised-length}
-use Rattle.interleaving.proofs.FirstLaws.{segment-whole}
+use Rattle.interleaving.proofs.FirstLaws.{segment-every}
 use Rattle.frame.specs.Frame.{startAt, sentOf, contentsOf}
 use Rattle.frame.specs.Walk.{Walks}
 use Rattle.frame.specs.declared.walking.Walk.{Walk}
-use Rattle.frame.proofs.FrameLaws.{rates, sent-matched, length-part}
+use Rattle.frame.proofs.FrameLaws.{rates, turn-inside, partOf, sent-matched, length-part}
 
--- with F = 1 the segment is the contents
-one-frame : (e : ℕ) (c : List ℕ) (frame : ℕ) → length c ≡ e
-    → segmentOf 0 (frame % framesIn 0) (segmentIn e (framesIn 0)) (equalised 0 0 (segmentIn e (framesIn 0)) c) ≡ c
-one-frame e c frame ec =
-    let b = segments-hold e 1 (omega arith) in
-    segment-whole 0 (segmentIn e (framesIn 0)) c (frame % framesIn 0) (omega (arith, b .0, b .1)) (omega (arith, mod-one frame))
+-- a TTI of one frame has one column
+pub column-one : (t frame : ℕ) → t ≡ 0 → 0 ≡ columnAt t (frame % framesIn t)
+unfolding columnAt orders
+column-one t frame e = rw (e, mod-one frame) refl
 
 module _ (sh : Sheet) (ok : Accepted sh) (i : ℕ) (l : i < sh .channels) where
-  -- what is lent for the segment
-  pub segmenting : (frame : ℕ) {t k n e : ℕ} → t ≡ ttiOf sh i → k ≡ frame % framesOf sh i → k < framesOf sh i → n ≡ sizeOf sh i → e ≡ encodedOf sh i
-      → Segmenting t n k e n
-  segmenting frame et ek lk en ee =
+  -- the contents hold the segment
+  content-fits : encodedOf sh i ≤ framesOf sh i * sizeOf sh i
+  content-fits = segments-hold (encodedOf sh i) (framesOf sh i) (frames-bounds (ttiOf sh i) (ok .ranged .tti i l) .0) .0
+
+  pub strided : {f n e : ℕ} → f ≡ framesOf sh i → n ≡ sizeOf sh i → e ≡ encodedOf sh i → Strided f n e
+  strided ef en ee =
       let b = frames-bounds (ttiOf sh i) (ok .ranged .tti i l) in
-      rw (et, en, ee) (record { known = ok .ranged .tti i l; inside = lk; fits = segments-hold (encodedOf sh i) (framesOf sh i) (b .0) .0; room = refl })
+      rw (ef, en, ee) (record { some = b .0; few = b .1; fits = content-fits })
 
   -- what is asked of the pattern: d by its sign and magnitude, and a start that is step 5's where there is a pattern
   pub sending : (frame : ℕ) (less : Bool) (m e : ℕ) {N W : ℕ} → signedBy less m ≡ changeOf sh i → m ≤ mostBits → N ≡ sizeOf sh i → W ≡ shareOf sh i
@@ -74,34 +76,29 @@ module _ (sh : Sheet) (ok : Accepted sh) (i : ℕ) (l : i < sh .channels) where
             };
       })
 
-  -- the segment, by the numbers that the code works out
-  pub segment-is : (frame : ℕ) (c : List ℕ) {t k n : ℕ} → t ≡ ttiOf sh i → k ≡ frame % framesOf sh i → n ≡ sizeOf sh i
-      → segmentOf t k n (equalised 0 t n c) ≡ segmentOf (ttiOf sh i) (frame % framesOf sh i) (sizeOf sh i) (equalised 0 (ttiOf sh i) (sizeOf sh i) c)
-  segment-is frame c et ek en = rw (et, ek, en) refl
-
-  -- it has N bits
-  pub segment-sized : (frame : ℕ) (c : List ℕ) → length c ≡ encodedOf sh i
-      → length (segmentOf (ttiOf sh i) (frame % framesOf sh i) (sizeOf sh i) (equalised 0 (ttiOf sh i) (sizeOf sh i) c)) ≡ sizeOf sh i
-  segment-sized frame c ec =
-      let b = frames-bounds (ttiOf sh i) (ok .ranged .tti i l) in
-      let h = segments-hold (encodedOf sh i) (framesOf sh i) (b .0) .0 in
-      length-part asIs sh ok frame i (equalised 0 (ttiOf sh i) (sizeOf sh i) c) l
-      (equalised-length 0 (ttiOf sh i) (sizeOf sh i) c (omega arith))
-
-  pub segment-one : (frame : ℕ) (c : List ℕ) → ttiOf sh i ≡ 0 → length c ≡ encodedOf sh i
-      → segmentOf (ttiOf sh i) (frame % framesOf sh i) (sizeOf sh i) (equalised 0 (ttiOf sh i) (sizeOf sh i) c) ≡ c
-  segment-one frame c et ec = rw et (one-frame (encodedOf sh i) c frame ec)
+  -- the segment where it stands among the channel's contents, by the numbers that the code works out
+  segment-read : (frame : ℕ) (c : List ℕ) → length c ≡ encodedOf sh i → {p f n : ℕ} → p ≡ columnAt (ttiOf sh i) (frame % framesOf sh i) → f ≡ framesOf sh i
+      → n ≡ sizeOf sh i → every 0 p f n c ≡ partOf sh frame i (equalised 0 (ttiOf sh i) (sizeOf sh i) c)
+  unfolding every
+  segment-read frame c ec ep ef en =
+      rw (ep, ef, en)
+      (sym
+      (segment-every 0 (ttiOf sh i) (sizeOf sh i) (frame % framesOf sh i) c (ok .ranged .tti i l) (turn-inside sh ok frame i l)
+      (omega (arith, content-fits))))
 
   -- what comes out is what the channel sends
-  pub sent-is : (frame : ℕ) (w : Walk) → Walks sh frame i w → (t : List ℕ) {seg out : List ℕ}
-      → seg ≡ segmentOf (ttiOf sh i) (frame % framesOf sh i) (sizeOf sh i) t → length seg ≡ sizeOf sh i
-      → out ≡ matched asIs (signedBy (w .less) (w .m)) (length seg) (w .e) seg → out ≡ sentOf asIs sh frame i t
-  sent-is frame w k t {seg} es ls eo =
+  pub sent-is : (frame : ℕ) (w : Walk) → Walks sh frame i w → (c : List ℕ) → length c ≡ encodedOf sh i → {p f : ℕ} {out : List ℕ}
+      → p ≡ columnAt (ttiOf sh i) (frame % framesOf sh i) → f ≡ framesOf sh i
+      → out ≡ matched asIs (signedBy (w .less) (w .m)) (w .n) (w .e) (every 0 p f (w .n) c)
+      → out ≡ sentOf asIs sh frame i (equalised 0 (ttiOf sh i) (sizeOf sh i) c)
+  sent-is frame w k c ec {p} {f} ep ef eo =
+      let t = equalised 0 (ttiOf sh i) (sizeOf sh i) c in
+      let full = equalised-length 0 (ttiOf sh i) (sizeOf sh i) c (omega (arith, content-fits)) in
       eo
-      ∙ ap₂ (λ (d : ℤ) (n : ℕ). matched asIs d n (w .e) seg) (k .change) ls
-      ∙ matched-start asIs (changeOf sh i) (sizeOf sh i) (w .e) (startAt sh frame i) seg ls
+      ∙ ap₂ (λ (d : ℤ) (xs : List ℕ). matched asIs d (w .n) (w .e) xs) (k .change) (segment-read frame c ec ep ef (k .size))
+      ∙ ap (λ (n : ℕ). matched asIs (changeOf sh i) n (w .e) (partOf sh frame i t)) (k .size)
+      ∙ matched-start asIs (changeOf sh i) (sizeOf sh i) (w .e) (startAt sh frame i) (partOf sh frame i t) (length-part asIs sh ok frame i t l full)
       (λ a b. k .start a (let p : 0 < natAbs (signedBy (w .less) (w .m)) = rw (k .change) b in rw (magnitude (w .less) (w .m)) at p))
-      ∙ ap (matched asIs (changeOf sh i) (sizeOf sh i) (startAt sh frame i)) es
       ∙ sym (sent-matched asIs sh ok frame i t)
 
   -- the start that the code works out is step 5's where there is a pattern

@@ -1,13 +1,9 @@
 -- Laws of the code's loops: parts one after the other, one more of them written, and what it lends of a slot.
 use mathlib.Core.Path.{_≡_, refl, sym, ap, ap₂, _∙_}
-use mathlib.Core.Bool.{Bool, true, false, cond}
 use mathlib.Core.List.{List}
-use Prim.Native.Nat.{ℕ, _+_, _*_, _-_, _≤_, _<_}
-use native.Mathlib.Nat.{mul-add}
+use Prim.Native.Nat.{ℕ, _+_, _-_, _≤_, _<_}
 use native.Mathlib.Omega.{arith}
-use borrow.Author.Tests.{eq-eqb, ne-eqb}
 use borrow.Rule.Slice.PartMut.{putMid}
-use lib.Dec.{eqb}
 use lib.ListN.{length, take, drop}
 use Rattle.laws.specs.Sums.{sumTo}
 use Rattle.laws.specs.Joined.{joined}
@@ -15,23 +11,19 @@ use Rattle.laws.proofs.SumLaws.{sum-more, sum-within}
 use Rattle.laws.proofs.FallLaws.{part-ends}
 use Rattle.laws.proofs.PartLaws.{part-length}
 use Rattle.laws.proofs.LaidLaws.{laid-none, laid-joined, laid-long, laid-all}
-use Rattle.laws.proofs.RowLaws.{rows-same}
 use Rattle.sheet.specs.Fields.{phchsOf}
 use Rattle.sheet.specs.Sizes.{slotCapacity, placesAll, subframesOf, capacityAll}
 use Rattle.sheet.specs.Range.{Accepted}
 use Rattle.sheet.specs.declared.Sheet.{Sheet}
 use Rattle.sheet.proofs.SizeLaws.{some-subframe}
-use Rattle.interleaving.specs.Second.{secondInterleaved}
-use Rattle.interleaving.proofs.SecondLaws.{second-length}
 use Rattle.mapping.specs.Mapping.{at, inRuns, slotOf}
 use Rattle.mapping.specs.Runs.{Coded}
 use Rattle.mapping.specs.declared.Runs.{Runs}
 use Rattle.mapping.proofs.MappedLaws.{mapped-over}
-use Rattle.frame.specs.Frame.{capsOf, runsOf, slotStart, slotPart, slotShare, sharePart, bitsFrom, bitsStart, slotPiece, slotBits, slotMapped, interleavedSlots, interleavedBits, mappedSlots, spread}
+use Rattle.frame.specs.Frame.{capsOf, runsOf, slotStart, slotMapped}
 use Rattle.frame.specs.Slots.{Spanned, Spans, RunsAt, Partwise}
 use Rattle.frame.specs.declared.spreading.Span.{Span}
-use Rattle.frame.proofs.FrameLaws.{caps-size, length-share}
-use Rattle.frame.proofs.ShareLaws.{share-of, piece-room, piece-is}
+use Rattle.frame.proofs.FrameLaws.{caps-size}
 use Rattle.frame.proofs.TurnLaws.{runs-some, turned-coded}
 
 -- ---- parts one after the other: what a loop holds
@@ -98,35 +90,6 @@ module _ (sh : Sheet) (t : ℕ) {a : ℕ} (ea : a ≡ slotStart sh t) where
         let e : s .to - s .from ≡ phchsOf sh t = omega (arith, p .to, p .from) in
         ap₂ (λ (x y : ℕ). take x (drop y (sh .caps))) e (p .from)
 
-    -- its share, k being the number of sub-frames
-    module _ {k : ℕ} (ek : k ≡ subframesOf sh) where
-      pub share-size : k * s .end ≡ k * a + subframesOf sh * slotCapacity sh t
-      share-size = ap (λ (x : ℕ). k * x) (p .end) ∙ mul-add k a (slotCapacity sh t) ∙ ap (λ (x : ℕ). k * a + x * slotCapacity sh t) ek
-
-      pub share-lent : {A : Type 0} (xs : List A) → take (k * s .end - k * a) (drop (k * a) xs) ≡ slotShare sh t xs
-      unfolding slotShare
-      share-lent xs =
-          let n : k * s .end - k * a ≡ subframesOf sh * slotCapacity sh t = omega (arith, share-size) in
-          ap₂ (λ (x y : ℕ). take x (drop y xs)) n (ap₂ _*_ ek ea)
-
-    -- its bits of sub-frame h, from b up to f
-    module _ (h : ℕ) {k w b f : ℕ} (ek : k ≡ subframesOf sh) (ew : w ≡ placesAll sh) (eb : b ≡ bitsFrom (sh .mode) k h w a (s .end - a)) (ef : f ≡ b + (s .end - a)) where
-      pub start-is : b ≡ bitsStart sh h t
-      unfolding bitsStart
-      start-is =
-          eb
-          ∙ ap₂ (λ (x y : ℕ). bitsFrom (sh .mode) x h y a (s .end - a)) ek ew
-          ∙ ap₂ (bitsFrom (sh .mode) (subframesOf sh) h (placesAll sh)) ea span-size
-
-      pub piece-ends : h < subframesOf sh → t < sh .slots → f ≤ capacityAll sh
-      piece-ends m l = omega (arith, start-is, span-size, piece-room sh h t m l)
-
-      pub piece-lent : {A : Type 0} (xs : List A) → take (f - b) (drop b xs) ≡ slotPiece sh h t xs
-      unfolding slotPiece
-      piece-lent xs =
-          let n : f - b ≡ slotCapacity sh t = omega (arith, span-size) in
-          ap₂ (λ (x y : ℕ). take x (drop y xs)) n start-is
-
     -- step 9: what is asked of the slot, and what is made of its bits, whatever stood at its places
     module _ (ok : Accepted sh) (l : t < sh .slots) {r : Runs} (k : RunsAt sh t r) {caps : List ℕ} (ec : caps ≡ sh .caps) where
       pub slot-fits : {n m : ℕ} → n ≡ slotCapacity sh t → m ≡ slotCapacity sh t
@@ -150,31 +113,3 @@ module _ (sh : Sheet) {phchs caps : List ℕ} (ep : phchs ≡ sh .phchs) (ec : c
 
   pub lent-span : {s : Span} → Spans phchs caps t a most s → Spans (sh .phchs) (sh .caps) t a most s
   lent-span x = rw (← ep, ← ec) x
-
--- ---- step 8 by the mode, and the pieces of what it gives
-
-module _ {A : Type 0} (sh : Sheet) (xs : List A) (full : length xs ≡ capacityAll sh) where
-  pub over-all : sh .mode ≡ 0 → secondInterleaved xs ≡ interleavedBits sh xs
-  unfolding interleavedBits
-  over-all z = sym (ap (λ (b : Bool). cond b (secondInterleaved xs) (interleavedSlots sh xs)) (eq-eqb (sh .mode) 0 z))
-
-  pub by-slots : (sh .mode ≡ 0 → ⊥) → interleavedSlots sh xs ≡ interleavedBits sh xs
-  unfolding interleavedBits
-  by-slots z = sym (ap (λ (b : Bool). cond b (secondInterleaved xs) (interleavedSlots sh xs)) (ne-eqb (sh .mode) 0 z))
-
-  -- the piece that a slot has in a sub-frame
-  piece-of : (h t : ℕ) → h < subframesOf sh → t < sh .slots → slotPiece sh h t (interleavedBits sh xs) ≡ slotBits sh xs h t
-  unfolding interleavedBits interleavedSlots slotBits
-  piece-of h t k l = piece-is sh h t k l (interleavedBits sh xs) ∙ by (eqb (sh .mode) 0)
-    where
-      by : (b : Bool)
-          → (let ys = cond b (secondInterleaved xs) (joined (λ i. secondInterleaved (slotShare sh i xs)) (sh .slots)) in
-          cond b (slotPart sh h t ys) (sharePart sh h t (slotShare sh t ys)))
-          ≡ cond b (slotPart sh h t (secondInterleaved xs)) (sharePart sh h t (secondInterleaved (slotShare sh t xs)))
-      by true = refl
-      by false = ap (sharePart sh h t) (share-of sh (λ i. secondInterleaved (slotShare sh i xs)) (λ i m. second-length (slotShare sh i xs) ∙ length-share sh i m xs full) t l)
-
-  -- and mapped they are the frame
-  pub spread-is : mappedSlots sh (interleavedBits sh xs) ≡ spread sh xs
-  unfolding mappedSlots spread
-  spread-is = rows-same _ _ (subframesOf sh) (sh .slots) (λ h t k l. ap (slotMapped sh t) (piece-of h t k l))

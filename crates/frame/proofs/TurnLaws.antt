@@ -2,12 +2,10 @@
 use mathlib.Core.Path.{_≡_, refl, sym, ap, ap₂, _∙_}
 use mathlib.Core.Bool.{Bool, true, false, cond, not, _&&_}
 use mathlib.Core.Logic.{_⊎_, inl, inr, ⊎-elim}
-use mathlib.Core.List.{List}
 use Prim.Native.Nat.{ℕ, _^_, _≤_, _<_}
 use native.Mathlib.Omega.{arith}
 use borrow.Author.Tests.{eq-eqb, ne-eqb}
 use lib.Dec.{eqb}
-use lib.ListN.{length}
 use lib.Pow.{pow-pos}
 use Rattle.sheet.specs.Counts.{mostPaired, mostLog}
 use Rattle.sheet.specs.Fields.{phchsOf, logOf}
@@ -88,4 +86,4 @@ module _ (sh : Sheet) (t : ℕ) where
   pub turned-coded : Accepted sh → t < sh .slots → {r : Runs} → RunsAt sh t r → {n m : ℕ} → Slot (capsOf sh t) n m
       → Coded (capsOf sh t) (r .first) (r .other) n m
   turned-coded ok l k s =
-      record { slot = s; few = ⊎-elim (λ h. inl (omega (arith, caps-length sh ok t l))) inr (k .few); runs = k .short }
+      record { slot = s; few = ⊎-elim (λ h. inl (omega (arith, caps-length sh ok t l))) inr (k .few); small = omega (arith, caps-length sh ok t l, ok .ranged .phch16 t l); runs = k .short }

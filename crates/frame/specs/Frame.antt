@@ -66,18 +66,6 @@ slotShare sh t xs = take (subframesOf sh * slotCapacity sh t) (drop (subframesOf
 unfoldable pub sharePart : {A : Type 0} → Sheet → ℕ → ℕ → List A → List A
 sharePart sh h t ys = take (slotCapacity sh t) (drop (h * slotCapacity sh t) ys)
 
--- where b is where a slot of c places begins in its sub-frame, which has w: where its bits of sub-frame h stand among the interleaved ones of k
--- sub-frames. Mode 0: in the frame's order; mode 1: in its share
-abbrev pub bitsFrom : ℕ → ℕ → ℕ → ℕ → ℕ → ℕ → ℕ
-bitsFrom mode k h w b c = cond (eqb mode 0) (h * w + b) (k * b + h * c)
-
-unfoldable pub bitsStart : Sheet → ℕ → ℕ → ℕ
-bitsStart sh h t = bitsFrom (sh .mode) (subframesOf sh) h (placesAll sh) (slotStart sh t) (slotCapacity sh t)
-
--- the bits themselves
-unfoldable pub slotPiece : {A : Type 0} → Sheet → ℕ → ℕ → List A → List A
-slotPiece sh h t xs = take (slotCapacity sh t) (drop (bitsStart sh h t) xs)
-
 -- the frame: sub-frame after sub-frame, and in each slot after slot
 abbrev pub inSlots : {A : Type 0} → Sheet → (ℕ → ℕ → List A) → List A
 inSlots sh g = inRows g (subframesOf sh) (sh .slots)
@@ -88,28 +76,16 @@ unfoldable pub slotBits : {A : Type 0} → Sheet → List A → ℕ → ℕ → 
 slotBits sh xs h t =
     cond (eqb (sh .mode) 0) (slotPart sh h t (secondInterleaved xs)) (sharePart sh h t (secondInterleaved (slotShare sh t xs)))
 
--- step 8 in mode 1: each slot's share by itself. The interleaved bits are kept share after share, as they come
-unfoldable pub interleavedSlots : {A : Type 0} → Sheet → List A → List A
-interleavedSlots sh xs = joined (λ t. secondInterleaved (slotShare sh t xs)) (sh .slots)
-
--- step 8, by the mode
-unfoldable pub interleavedBits : {A : Type 0} → Sheet → List A → List A
-interleavedBits sh xs = cond (eqb (sh .mode) 0) (secondInterleaved xs) (interleavedSlots sh xs)
-
 -- step 9 of one slot. Each place of it is written, so that it does not matter what stood there before
 abbrev pub slotMapped : {A : Type 0} → Sheet → ℕ → List A → List A
 slotMapped sh t bits = slotOf (runsOf sh t) (capsOf sh t) bits bits
 
--- steps 8 and 9
+-- steps 8 and 9, of sub-frame h and of all
+unfoldable pub spreadSubframe : {A : Type 0} → Sheet → ℕ → List A → List A
+spreadSubframe sh h xs = joined (λ t. slotMapped sh t (slotBits sh xs h t)) (sh .slots)
+
 unfoldable pub spread : {A : Type 0} → Sheet → List A → List A
 spread sh xs = inSlots sh (λ h t. slotMapped sh t (slotBits sh xs h t))
-
--- step 9 of bits that are interleaved already: of sub-frame h, and of all
-unfoldable pub mappedSubframe : {A : Type 0} → Sheet → ℕ → List A → List A
-mappedSubframe sh h xs = joined (λ t. slotMapped sh t (slotPiece sh h t xs)) (sh .slots)
-
-unfoldable pub mappedSlots : {A : Type 0} → Sheet → List A → List A
-mappedSlots sh xs = inSlots sh (λ h t. slotMapped sh t (slotPiece sh h t xs))
 
 -- steps 2 to 9
 unfoldable pub frameOf : {A B : Type 0} → (A → ℕ → B) → Sheet → ℕ → (ℕ → List A) → List B

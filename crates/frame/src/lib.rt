@@ -2,5 +2,6 @@
 pub mod building;
 pub mod checking;
 pub mod multiplexing;
+pub mod rooms;
 pub mod spreading;
 pub mod walking;

@@ -9,23 +9,16 @@ ghost use Rattle.opening.specs.Opened.{Opens};
 ghost use Rattle.pattern.specs.Pattern.{asIs};
 ghost use Rattle.interleaving.specs.First.{equalised};
 ghost use Rattle.frame.specs.Frame.{sentOf, multiplexedBits};
-ghost use Rattle.frame.specs.Room.{Segments};
 use crate::walking::walk_of;
 use counters::FrameNumber;
 use opening::Opened;
 use sheet::count;
 use sheet::sizes::frames;
 
-// The bits that channel i sends. A TTI of one frame is its own segment; else the room is for the segment.
-fn send(
-    contents: &[u8],
-    opened: Opened,
-    i: usize,
-    frame: FrameNumber,
-    room: &mut [u8],
-    out: &mut [u8],
-)
-    requires { ⌜ Opens opened × (i < opened .fields .channels) × (length (now contents) ≡ encodedOf (opened .fields) i) × (length (now room) ≡ sizeOf (opened .fields) i) × (length (now out) ≡ shareOf (opened .fields) i) ⌝ }
+// The bits that channel i sends: the frame's segment is every F-th of its bits, from the frame's column on. With F = 1 the numbers are
+// constant, so that the compiler takes many bits a turn.
+fn send(contents: &[u8], opened: Opened, i: usize, frame: FrameNumber, out: &mut [u8])
+    requires { ⌜ Opens opened × (i < opened .fields .channels) × (length (now contents) ≡ encodedOf (opened .fields) i) × (length (now out) ≡ shareOf (opened .fields) i) ⌝ }
     ensures { λ _. ⌜ now (out .exit) ≡ sentOf asIs (opened .fields) (frame .0) i (equalised 0 (ttiOf (opened .fields) i) (sizeOf (opened .fields) i) (now (contents .entry))) ⌝ }
 {
     let fields = opened.fields;
@@ -33,28 +26,22 @@ fn send(
     let tti = ttis[i];
     let w = walk_of(opened, i, frame);
     if tti == 0 {
-        pattern::match_rate(contents, out, w.e, w.less, w.m);
+        pattern::match_rate(contents, w.n, 0, 1, out, w.e, w.less, w.m);
     } else {
-        let k = frame.within(frames(tti));
-        interleaving::first::segment(contents, count(tti), room.len(), k, room);
-        pattern::match_rate(room, out, w.e, w.less, w.m);
+        let f = frames(tti);
+        let k = frame.within(f);
+        let p = orders::column(count(tti), k);
+        pattern::match_rate(contents, w.n, p, f as usize, out, w.e, w.less, w.m);
     }
 }
 
-// Channel after channel. The room is for one segment at a time.
-pub fn multiplex_bits(
-    contents: &[u8],
-    opened: Opened,
-    frame: FrameNumber,
-    room: &mut [u8],
-    out: &mut [u8],
-)
-    requires { ⌜ Opens opened × (length (now contents) ≡ encodedAll (opened .fields)) × Segments (opened .fields) (length (now room)) × (length (now out) ≡ capacityAll (opened .fields)) ⌝ }
+// Channel after channel.
+pub fn multiplex_bits(contents: &[u8], opened: Opened, frame: FrameNumber, out: &mut [u8])
+    requires { ⌜ Opens opened × (length (now contents) ≡ encodedAll (opened .fields)) × (length (now out) ≡ capacityAll (opened .fields)) ⌝ }
     ensures { λ _. ⌜ now (out .exit) ≡ multiplexedBits (opened .fields) (frame .0) (now (contents .entry)) ⌝ }
 {
     let fields = opened.fields;
     let es = fields.e;
-    let sizes = opened.sizes;
     let cuts = opened.cuts;
     let n = count(fields.channels);
     let mut i: usize = 0;
@@ -63,15 +50,7 @@ pub fn multiplex_bits(
         let to = from + count(es[i]);
         let a = cuts[i] as usize;
         let z = cuts[i + 1] as usize;
-        let size = sizes[i] as usize;
-        send(
-            &contents[from..to],
-            opened,
-            i,
-            frame,
-            &mut room[..size],
-            &mut out[a..z],
-        );
+        send(&contents[from..to], opened, i, frame, &mut out[a..z]);
         from = to;
         i += 1;
     }

@@ -5,8 +5,8 @@ ghost use lib.ListN.{length};
 ghost use Rattle.sheet.specs.Counts.{mostSubframes, mostBits};
 ghost use Rattle.sheet.specs.Sizes.{placesAll, subframesOf, capacityAll};
 ghost use Rattle.sheet.specs.Range.{Accepted};
-ghost use Rattle.frame.specs.Frame.{bitsFrom, interleavedSlots, interleavedBits, mappedSubframe, mappedSlots, spread};
-ghost use Rattle.frame.specs.Slots.{Spanned, Spans, RunsAt};
+ghost use Rattle.frame.specs.Frame.{spreadSubframe, spread};
+ghost use Rattle.frame.specs.Slots.{Spanned, Spans, blockOf, RunsAt};
 use mapping::Runs;
 use mapping::runs_of;
 use sheet::Sheet;
@@ -53,15 +53,28 @@ pub fn span_of<'a>(
     }
 }
 
-// Where a slot's bits of sub-frame h stand among the interleaved ones of k sub-frames, which have w places each; the slot's are from a to e.
-pub fn bits_start(mode: u16, k: usize, h: usize, w: usize, a: usize, e: usize) -> usize
+// What step 8 interleaves together with a slot's bits: it stands from `from` up to `to` among the multiplexed ones. Interleaved, it has those of the
+// slot from its index `at` on.
+pub struct Block {
+    pub from: usize,
+    pub to: usize,
+    pub at: usize,
+}
+
+// Of sub-frame h of k, which have w places each; the slot's are from a to e.
+pub fn block_of(mode: u16, k: usize, h: usize, w: usize, a: usize, e: usize) -> Block
     requires { ⌜ (k ≤ mostSubframes) × (h < k) × (w ≤ mostBits) × (a ≤ e) × (e ≤ w) ⌝ }
-    ensures { λ r. ⌜ r ≡ bitsFrom mode k h w a (e - a) ⌝ }
+    ensures { λ r. ⌜ r ≡ blockOf mode k h w a (e - a) ⌝ }
 {
     if mode == 0 {
-        return h * w + a;
+        let to = k * w;
+        let at = h * w + a;
+        return Block { from: 0, to, at };
     }
-    k * a + h * (e - a)
+    let from = k * a;
+    let to = k * e;
+    let at = h * (e - a);
+    Block { from, to, at }
 }
 
 // How many bits each physical channel of slot t takes at its turn. The arrays are lent, so that a loop over slots copies none of the struct.
@@ -96,29 +109,8 @@ pub fn runs_at(fields: Sheet, t: usize) -> Runs
     runs_lent(fields, &phchs, &logs, t)
 }
 
-// Mode 1: each slot's share interleaved by itself. It has k times the slot's places.
-fn interleave_slots(bits: &[u8], fields: Sheet, out: &mut [u8])
-    requires { ⌜ Accepted fields × (length (now bits) ≡ capacityAll fields) × (length (now out) ≡ capacityAll fields) ⌝ }
-    ensures { λ _. ⌜ now (out .exit) ≡ interleavedSlots fields (now (bits .entry)) ⌝ }
-{
-    let k = subframes(fields);
-    let phchs = fields.phchs;
-    let caps = fields.caps;
-    let mut t: usize = 0;
-    let mut a: usize = 0;
-    while t < count(fields.slots) {
-        let s = span_of(&phchs, &caps, t, a, out.len());
-        let e = s.end;
-        let from = k * a;
-        let to = k * e;
-        interleaving::second::interleave(&bits[from..to], &mut out[from..to]);
-        a = e;
-        t = s.next;
-    }
-}
-
-// Step 9 of sub-frame h, slot after slot, of bits that are interleaved already. The arrays are lent: a struct's would be copied for each sub-frame.
-fn map_subframe<'a>(
+// Steps 8 and 9 of sub-frame h, slot after slot. The arrays are lent: a struct's would be copied for each sub-frame.
+fn spread_subframe<'a>(
     bits: &[u8],
     fields: Sheet,
     phchs: &'a [u16; SLOTS],
@@ -128,7 +120,7 @@ fn map_subframe<'a>(
     out: &mut [u8],
 )
     requires { ⌜ Accepted fields × (now phchs ≡ fields .phchs) × (now caps ≡ fields .caps) × (now logs ≡ fields .logs) × (h < subframesOf fields) × (length (now bits) ≡ capacityAll fields) × (length (now out) ≡ placesAll fields) ⌝ }
-    ensures { λ _. ⌜ now (out .exit) ≡ mappedSubframe fields h (now (bits .entry)) ⌝ }
+    ensures { λ _. ⌜ now (out .exit) ≡ spreadSubframe fields h (now (bits .entry)) ⌝ }
 {
     let all: &[u16] = caps;
     let k = subframes(fields);
@@ -140,18 +132,25 @@ fn map_subframe<'a>(
         let from = s.from;
         let to = s.to;
         let e = s.end;
-        let b = bits_start(fields.mode, k, h, out.len(), a, e);
-        let f = b + (e - a);
-        mapping::map_slot(&bits[b..f], &all[from..to], runs, &mut out[a..e]);
+        let b = block_of(fields.mode, k, h, out.len(), a, e);
+        let first = b.from;
+        let last = b.to;
+        mapping::map_slot(
+            &bits[first..last],
+            b.at,
+            &all[from..to],
+            runs,
+            &mut out[a..e],
+        );
         a = e;
         t = s.next;
     }
 }
 
-// Step 9, sub-frame after sub-frame.
-fn map_slots(bits: &[u8], fields: Sheet, out: &mut [u8])
+// Steps 8 and 9: the frame of multiplexed bits, sub-frame after sub-frame.
+pub fn spread_bits(bits: &[u8], fields: Sheet, out: &mut [u8])
     requires { ⌜ Accepted fields × (length (now bits) ≡ capacityAll fields) × (length (now out) ≡ capacityAll fields) ⌝ }
-    ensures { λ _. ⌜ now (out .exit) ≡ mappedSlots fields (now (bits .entry)) ⌝ }
+    ensures { λ _. ⌜ now (out .exit) ≡ spread fields (now (bits .entry)) ⌝ }
 {
     let k = subframes(fields);
     let w = subframe_places(fields, out.len());
@@ -162,38 +161,8 @@ fn map_slots(bits: &[u8], fields: Sheet, out: &mut [u8])
     let mut a: usize = 0;
     while h < k {
         let e = a + w;
-        map_subframe(bits, fields, &phchs, &caps, &logs, h, &mut out[a..e]);
+        spread_subframe(bits, fields, &phchs, &caps, &logs, h, &mut out[a..e]);
         a = e;
         h += 1;
     }
-}
-
-// Step 8, by the mode.
-fn interleave_bits(bits: &[u8], fields: Sheet, out: &mut [u8])
-    requires { ⌜ Accepted fields × (length (now bits) ≡ capacityAll fields) × (length (now out) ≡ capacityAll fields) ⌝ }
-    ensures { λ _. ⌜ now (out .exit) ≡ interleavedBits fields (now (bits .entry)) ⌝ }
-{
-    if fields.mode == 0 {
-        interleaving::second::interleave(bits, out);
-    } else {
-        interleave_slots(bits, fields, out);
-    }
-}
-
-// Steps 8 and 9: the frame of multiplexed bits. The room is for the interleaved ones.
-pub fn spread_bits(bits: &[u8], fields: Sheet, room: &mut [u8], out: &mut [u8])
-    requires { ⌜ Accepted fields × (length (now bits) ≡ capacityAll fields) × (length (now room) ≡ capacityAll fields) × (length (now out) ≡ capacityAll fields) ⌝ }
-    ensures { λ _. ⌜ now (out .exit) ≡ spread fields (now (bits .entry)) ⌝ }
-{
-    interleave_bits(bits, fields, room);
-    map_slots(room, fields, out);
-}
-
-// The same where the multiplexed bits stand in the frame's own place.
-pub fn spread_over(fields: Sheet, room: &mut [u8], out: &mut [u8])
-    requires { ⌜ Accepted fields × (length (now room) ≡ capacityAll fields) × (length (now out) ≡ capacityAll fields) ⌝ }
-    ensures { λ _. ⌜ now (out .exit) ≡ spread fields (now (out .entry)) ⌝ }
-{
-    interleave_bits(out, fields, room);
-    map_slots(room, fields, out);
 }

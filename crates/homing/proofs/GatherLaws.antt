@@ -115,7 +115,7 @@ module _ {A : Type 0} (z : A) (sh : Sheet) where
         → joined (λ h. sharePart sh h t (secondInterleaved (slotShare sh t xs))) (subframesOf sh) ≡ secondInterleaved (slotShare sh t xs)
     shared t l = share-parts sh t (secondInterleaved (slotShare sh t xs)) (second-length (slotShare sh t xs) ∙ length-share sh t l xs full)
 
-    undone-again : undoneBits z sh (assembled sh (slotBits sh xs)) ≡ xs
+    pub undone-again : undoneBits z sh (assembled sh (slotBits sh xs)) ≡ xs
     unfolding undoneBits undoneSlots assembled slotBits
     undone-again = by (eqb (sh .mode) 0)
       where
@@ -156,7 +156,7 @@ module _ {A : Type 0} (z : A) (sh : Sheet) where
 -- ---- gathering and spreading undo each other
 
 module _ {A : Type 0} (z : A) (sh : Sheet) (ok : Accepted sh) where
-  long-taken : (xs : List A) (h t : ℕ) → h < subframesOf sh → t < sh .slots → length (partUnmapped z sh xs h t) ≡ slotCapacity sh t
+  pub long-taken : (xs : List A) (h t : ℕ) → h < subframesOf sh → t < sh .slots → length (partUnmapped z sh xs h t) ≡ slotCapacity sh t
   long-taken xs h t k l = unmapped-length (at (capsOf sh t)) (runsOf sh t) (length (capsOf sh t)) z (slotPart sh h t xs) ∙ caps-size sh ok t l
 
   pub length-gathered : (xs : List A) → length (gathered z sh xs) ≡ capacityAll sh

@@ -1,5 +1,5 @@
 pub mod GatherLaws
-pub mod PieceLaws
+pub mod ThroughLaws
 pub mod FinishLaws
 pub mod Taken
 pub mod Labelled

@@ -41,13 +41,3 @@ receptionOf sh number ms (One w) = foundOf sh number ms w
 unfoldable pub receivedInto : Sheet → ℕ → List Float → Asked → List Float → List Float
 receivedInto sh number ms All old = takenFrom sh number ms (sh .channels) old
 receivedInto sh number ms (One w) old = old
-
--- frames that are gathered in small rooms, since a room is cleared where it is made
-abbrev pub smallFrame : ℕ
-smallFrame = 512
-
-abbrev pub middleFrame : ℕ
-middleFrame = 4096
-
-abbrev pub largeFrame : ℕ
-largeFrame = 16384

@@ -9,7 +9,8 @@ ghost use Rattle.matching.specs.Shares.{shareOf, channelPart};
 ghost use Rattle.opening.specs.Opened.{Opens};
 ghost use Rattle.homing.specs.Gather.{gathered};
 ghost use Rattle.homing.specs.Home.{takenBack};
-ghost use Rattle.homing.specs.Receiving.{Findable, Askable, foundOf, receptionOf, receivedInto, smallFrame, middleFrame, largeFrame};
+ghost use Rattle.frame.specs.Room.{tinyFrame, smallFrame, middleFrame, largeFrame, hugeFrame};
+ghost use Rattle.homing.specs.Receiving.{Findable, Askable, foundOf, receptionOf, receivedInto};
 use crate::gathering::gather_values;
 use crate::taking::hear_channel;
 use crate::taking::survey_channel;
@@ -17,17 +18,15 @@ use crate::taking::take_segments;
 use counters::BitNumber;
 use counters::FrameNumber;
 use counters::TrchNumber;
+use frame::rooms::HUGE;
+use frame::rooms::LARGE;
+use frame::rooms::MIDDLE;
+use frame::rooms::SMALL;
+use frame::rooms::TINY;
 use joining::Heard;
 use joining::linking::Link;
 use opening::Opened;
 use sheet::counts::MOST_BITS;
-
-// The frames of specs/Receiving.antt. Rooms are made of ones: all bytes 0 would be cleared byte by byte (docs/SPEED.md).
-pub const SMALL: usize = 512;
-
-pub const MIDDLE: usize = 4096;
-
-pub const LARGE: usize = 16384;
 
 // Of one channel: what was heard of a bit of its segment, or its link record.
 pub enum Wanted {
@@ -104,22 +103,35 @@ fn answer(
     }
 }
 
-// The rooms are for values that are interleaved still, and for gathered ones; a frame takes their first part.
+// The room is for gathered values; a frame takes its first part. Rooms are made of ones: all bytes 0 would be cleared byte by byte (docs/SPEED.md).
 fn receive_within(
     frame: &[f32],
     opened: Opened,
     number: FrameNumber,
     asked: Asked,
     room: &mut [f32],
-    values: &mut [f32],
     joined: &mut [f32],
 ) -> Reception
-    requires { ⌜ Opens opened × (length (now frame) ≡ capacityAll (opened .fields)) × Askable (opened .fields) asked (length (now joined)) × (length (now frame) ≤ length (now room)) × (length (now frame) ≤ length (now values)) ⌝ }
+    requires { ⌜ Opens opened × (length (now frame) ≡ capacityAll (opened .fields)) × Askable (opened .fields) asked (length (now joined)) × (length (now frame) ≤ length (now room)) ⌝ }
     ensures { λ r. ⌜ (r ≡ receptionOf (opened .fields) (number .0) (gathered nan (opened .fields) (now (frame .entry))) asked) × (now (joined .exit) ≡ receivedInto (opened .fields) (number .0) (gathered nan (opened .fields) (now (frame .entry))) asked (now (joined .entry))) ⌝ }
 {
     let n = frame.len();
-    gather_values(frame, opened.fields, &mut room[..n], &mut values[..n]);
-    answer(&values[..n], opened, number, asked, joined)
+    gather_values(frame, opened.fields, &mut room[..n]);
+    answer(&room[..n], opened, number, asked, joined)
+}
+
+fn receive_tiny(
+    frame: &[f32],
+    opened: Opened,
+    number: FrameNumber,
+    asked: Asked,
+    joined: &mut [f32],
+) -> Reception
+    requires { ⌜ Opens opened × (length (now frame) ≡ capacityAll (opened .fields)) × Askable (opened .fields) asked (length (now joined)) × (length (now frame) ≤ tinyFrame) ⌝ }
+    ensures { λ r. ⌜ (r ≡ receptionOf (opened .fields) (number .0) (gathered nan (opened .fields) (now (frame .entry))) asked) × (now (joined .exit) ≡ receivedInto (opened .fields) (number .0) (gathered nan (opened .fields) (now (frame .entry))) asked (now (joined .entry))) ⌝ }
+{
+    let mut room = [1.0f32; TINY];
+    receive_within(frame, opened, number, asked, &mut room, joined)
 }
 
 fn receive_small(
@@ -133,8 +145,7 @@ fn receive_small(
     ensures { λ r. ⌜ (r ≡ receptionOf (opened .fields) (number .0) (gathered nan (opened .fields) (now (frame .entry))) asked) × (now (joined .exit) ≡ receivedInto (opened .fields) (number .0) (gathered nan (opened .fields) (now (frame .entry))) asked (now (joined .entry))) ⌝ }
 {
     let mut room = [1.0f32; SMALL];
-    let mut values = [1.0f32; SMALL];
-    receive_within(frame, opened, number, asked, &mut room, &mut values, joined)
+    receive_within(frame, opened, number, asked, &mut room, joined)
 }
 
 fn receive_middle(
@@ -148,8 +159,7 @@ fn receive_middle(
     ensures { λ r. ⌜ (r ≡ receptionOf (opened .fields) (number .0) (gathered nan (opened .fields) (now (frame .entry))) asked) × (now (joined .exit) ≡ receivedInto (opened .fields) (number .0) (gathered nan (opened .fields) (now (frame .entry))) asked (now (joined .entry))) ⌝ }
 {
     let mut room = [1.0f32; MIDDLE];
-    let mut values = [1.0f32; MIDDLE];
-    receive_within(frame, opened, number, asked, &mut room, &mut values, joined)
+    receive_within(frame, opened, number, asked, &mut room, joined)
 }
 
 fn receive_large(
@@ -163,8 +173,21 @@ fn receive_large(
     ensures { λ r. ⌜ (r ≡ receptionOf (opened .fields) (number .0) (gathered nan (opened .fields) (now (frame .entry))) asked) × (now (joined .exit) ≡ receivedInto (opened .fields) (number .0) (gathered nan (opened .fields) (now (frame .entry))) asked (now (joined .entry))) ⌝ }
 {
     let mut room = [1.0f32; LARGE];
-    let mut values = [1.0f32; LARGE];
-    receive_within(frame, opened, number, asked, &mut room, &mut values, joined)
+    receive_within(frame, opened, number, asked, &mut room, joined)
+}
+
+fn receive_huge(
+    frame: &[f32],
+    opened: Opened,
+    number: FrameNumber,
+    asked: Asked,
+    joined: &mut [f32],
+) -> Reception
+    requires { ⌜ Opens opened × (length (now frame) ≡ capacityAll (opened .fields)) × Askable (opened .fields) asked (length (now joined)) × (length (now frame) ≤ hugeFrame) ⌝ }
+    ensures { λ r. ⌜ (r ≡ receptionOf (opened .fields) (number .0) (gathered nan (opened .fields) (now (frame .entry))) asked) × (now (joined .exit) ≡ receivedInto (opened .fields) (number .0) (gathered nan (opened .fields) (now (frame .entry))) asked (now (joined .entry))) ⌝ }
+{
+    let mut room = [1.0f32; HUGE];
+    receive_within(frame, opened, number, asked, &mut room, joined)
 }
 
 fn receive_whole(
@@ -178,8 +201,7 @@ fn receive_whole(
     ensures { λ r. ⌜ (r ≡ receptionOf (opened .fields) (number .0) (gathered nan (opened .fields) (now (frame .entry))) asked) × (now (joined .exit) ≡ receivedInto (opened .fields) (number .0) (gathered nan (opened .fields) (now (frame .entry))) asked (now (joined .entry))) ⌝ }
 {
     let mut room = [1.0f32; MOST_BITS as usize];
-    let mut values = [1.0f32; MOST_BITS as usize];
-    receive_within(frame, opened, number, asked, &mut room, &mut values, joined)
+    receive_within(frame, opened, number, asked, &mut room, joined)
 }
 
 // Of a frame of at most MIDDLE places. The compiler leaves this function and the next apart, since each has two callers and is not small: with the rooms
@@ -194,7 +216,9 @@ fn receive_near(
     requires { ⌜ Opens opened × (length (now frame) ≡ capacityAll (opened .fields)) × Askable (opened .fields) asked (length (now joined)) × (length (now frame) ≤ middleFrame) ⌝ }
     ensures { λ r. ⌜ (r ≡ receptionOf (opened .fields) (number .0) (gathered nan (opened .fields) (now (frame .entry))) asked) × (now (joined .exit) ≡ receivedInto (opened .fields) (number .0) (gathered nan (opened .fields) (now (frame .entry))) asked (now (joined .entry))) ⌝ }
 {
-    if frame.len() <= SMALL {
+    if frame.len() <= TINY {
+        receive_tiny(frame, opened, number, asked, joined)
+    } else if frame.len() <= SMALL {
         receive_small(frame, opened, number, asked, joined)
     } else {
         receive_middle(frame, opened, number, asked, joined)
@@ -213,6 +237,8 @@ fn receive_far(
 {
     if frame.len() <= LARGE {
         receive_large(frame, opened, number, asked, joined)
+    } else if frame.len() <= HUGE {
+        receive_huge(frame, opened, number, asked, joined)
     } else {
         receive_whole(frame, opened, number, asked, joined)
     }

@@ -5,9 +5,10 @@ use Prim.Native.Nat.{ℕ, zero, suc, _+_, _*_, _-_, _/_, _≤_, _<_}
 use native.Mathlib.Nat.{mul-zero, mul-suc, mul-comm, div-add-mod', mod-lt}
 use native.Mathlib.Numerals.{add-one}
 use native.Mathlib.Omega.{arith}
-use lib.ListN.{length, getD, replicate, length-append, length-replicate, getD-replicate, length-map, List·getD-append}
+use lib.ListN.{length, getD, replicate, length-append, length-replicate, getD-replicate, length-map, List·getD-append, List·getD-eq-default}
 use lib.Seq.{getD-append-add}
 use Rattle.laws.proofs.PartLaws.{replicate-map}
+use Rattle.laws.proofs.TestLaws.{split}
 use Rattle.sheet.specs.Sizes.{framesIn, segmentIn}
 use Rattle.sheet.proofs.SizeLaws.{size-some}
 use Rattle.interleaving.specs.First.{equalised}
@@ -39,6 +40,25 @@ module _ {A : Type 0} (filler : A) (tti n : ℕ) (xs : List A) where
       ap (λ (j : ℕ). getD (xs ++ replicate m filler) j z) q
       ∙ getD-append-add xs (replicate m filler) (k - length xs) z
       ∙ getD-replicate m (k - length xs) filler z (omega arith)
+
+filler-at : {A : Type 0} (filler : A) (n k : ℕ) → getD (replicate n filler) k filler ≡ filler
+filler-at filler zero k = refl
+filler-at filler (suc n) zero = refl
+filler-at filler (suc n) (suc k) = filler-at filler n k
+
+-- read with the filler past the end, the fillers make no difference
+pub equalised-at : {A : Type 0} (filler : A) (tti n : ℕ) (xs : List A) (k : ℕ) → getD (equalised filler tti n xs) k filler ≡ getD xs k filler
+unfolding equalised
+equalised-at filler tti n xs k =
+    split (length xs) k
+    (λ le.
+    let q : k ≡ length xs + (k - length xs) = omega arith in
+    let m = framesIn tti * n - length xs in
+    ap (λ (j : ℕ). getD (xs ++ replicate m filler) j filler) q
+    ∙ getD-append-add xs (replicate m filler) (k - length xs) filler
+    ∙ filler-at filler m (k - length xs)
+    ∙ sym (List·getD-eq-default xs filler le))
+    (λ lt. List·getD-append xs _ filler k lt)
 
 pub equalised-map : {A B : Type 0} (g : A → B) (filler : A) (tti n : ℕ) (xs : List A)
     → equalised (g filler) tti n (map g xs) ≡ map g (equalised filler tti n xs)

@@ -1,21 +1,22 @@
 -- Laws of steps 2 and 3.
-use mathlib.Core.Path.{_≡_, refl, sym, ap, _∙_}
+use mathlib.Core.Path.{_≡_, sym, ap, _∙_}
 use mathlib.Core.List.{List, map, flatten}
 use Prim.Native.Nat.{ℕ, suc, _+_, _*_, _≤_, _<_}
-use native.Mathlib.Nat.{suc-mul, mul-le-mul-right}
+use native.Mathlib.Nat.{add-comm, suc-mul, mul-le-mul-right}
 use native.Mathlib.Omega.{arith}
 use lib.ListN.{length, getD, length-take, length-drop}
 use lib.Seq.{getD-take, getD-drop, ext-getD}
 use Rattle.laws.specs.Tables.{table}
 use Rattle.laws.proofs.SumLaws.{sum-const}
+use Rattle.laws.proofs.TableLaws.{tabled}
 use Rattle.laws.proofs.PartLaws.{take-map, drop-map, parts-joined}
 use Rattle.sheet.specs.Counts.{mostTti}
 use Rattle.sheet.specs.Sizes.{framesIn}
-use Rattle.orders.specs.Orders.{orders, columnAt, rowOf}
+use Rattle.orders.specs.Orders.{columnAt, rowOf}
 use Rattle.orders.proofs.OrderLaws.{frames-bounds, column-swaps, length-row, row-at}
 use Rattle.interleaving.specs.Columns.{column, columns, height, heights}
 use Rattle.interleaving.specs.First.{equalised, firstInterleaved, segmentOf}
-use Rattle.interleaving.proofs.EqualisedLaws.{equalised-length, equalised-bit}
+use Rattle.interleaving.proofs.EqualisedLaws.{equalised-length, equalised-at}
 use Rattle.interleaving.proofs.ColumnLaws.{Among, height-full, column-at, column-length, columns-length, columns-at, columns-map}
 
 module _ (tti : ℕ) (known : tti ≤ mostTti) where
@@ -92,21 +93,15 @@ module _ {A B : Type 0} (g : A → B) (tti : ℕ) (xs : List A) where
   unfolding segmentOf
   segment-map frame n = rw (first-map, drop-map, take-map)
 
-column-one : columnAt 0 0 ≡ 0
-unfolding columnAt orders
-column-one = refl
-
--- a TTI of one frame is its own segment
-pub segment-whole : {A : Type 0} (z : A) (n : ℕ) (xs : List A) (frame : ℕ) → length xs ≡ n → frame < framesIn 0
-    → segmentOf 0 frame n (equalised z 0 n xs) ≡ xs
-segment-whole z n xs frame e inside =
-    let full = equalised-length z 0 n xs (omega arith) in
-    let known : 0 ≤ mostTti = omega arith in
-    let long = segment-length 0 known n (equalised z 0 n xs) full frame inside in
-    let first : frame ≡ 0 = omega arith in
-    ext-getD z _ _ (long ∙ sym e)
+-- steps 1 to 3 at once: the frame's segment is every F-th of the elements from its column on, and fillers past the end
+pub segment-every : {A : Type 0} (filler : A) (tti n frame : ℕ) (xs : List A) → tti ≤ mostTti → frame < framesIn tti → length xs ≤ framesIn tti * n
+    → segmentOf tti frame n (equalised filler tti n xs) ≡ table (λ m. getD xs (columnAt tti frame + m * framesIn tti) filler) 0 n
+segment-every filler tti n frame xs known inside fits =
+    let full = equalised-length filler tti n xs fits in
+    let c = columnAt tti frame in
+    tabled _ (segmentOf tti frame n (equalised filler tti n xs)) n filler
+    (segment-length tti known n (equalised filler tti n xs) full frame inside)
     (λ m l.
-    let k : m * framesIn 0 + columnAt 0 frame ≡ m = ap (λ (f : ℕ). m * framesIn 0 + columnAt 0 f) first ∙ omega (arith, column-one) in
-    segment-at 0 known n (equalised z 0 n xs) full frame inside m z (omega (arith, long))
-    ∙ ap (λ (j : ℕ). getD (equalised z 0 n xs) j z) k
-    ∙ equalised-bit z 0 n xs m z (omega (arith, long)))
+    segment-at tti known n (equalised filler tti n xs) full frame inside m filler l
+    ∙ equalised-at filler tti n xs (m * framesIn tti + c)
+    ∙ ap (λ (k : ℕ). getD xs k filler) (add-comm (m * framesIn tti) c))

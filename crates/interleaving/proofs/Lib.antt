@@ -3,7 +3,6 @@ pub mod EqualisedLaws
 pub mod FirstLaws
 pub mod FinishLaws
 pub mod SecondLaws
-pub mod SegmentWalk
 pub mod FinishWalk
 pub mod SecondWalk
 pub mod Example

@@ -4,13 +4,14 @@ use mathlib.Core.Bool.{Bool}
 use mathlib.Core.List.{List, map}
 use Prim.Native.Nat.{ℕ, zero, suc, _+_, _*_, _-_, _/_, _%_, _≤_, _<_}
 use native.Mathlib.Omega.{arith}
+use native.Mathlib.Decide.{ℕ-discrete}
 use lib.Dec.{eqb, eqb→eq, lit<}
-use lib.ListN.{length, getD}
-use lib.Seq.{ext-getD}
+use lib.ListN.{length, getD, set, length-set}
+use lib.Seq.{ext-getD, getD-set-same, getD-set-other}
 use Rattle.laws.specs.Sums.{sumTo}
 use Rattle.laws.specs.Tables.{table}
 use Rattle.laws.specs.Least.{Passes}
-use Rattle.laws.proofs.LeastLaws.{first-passes}
+use Rattle.laws.proofs.LeastLaws.{first-passes, passes-one}
 use Rattle.laws.proofs.TableLaws.{table-length, table-get}
 use Rattle.laws.proofs.TestLaws.{both, below, below-at}
 use Rattle.orders.specs.Orders.{order, turnOf}
@@ -57,6 +58,12 @@ read-most K t (suc n) =
     let q : t + suc n ≡ suc (t + n) = omega arith in
     rw q (omega (arith, read-suc K (t + n), read-most K t n))
 
+-- what is read before a turn is not more than all
+pub read-within : (K t : ℕ) → t ≤ 30 → readBefore K t ≤ K
+read-within K t h =
+    let q : t + (30 - t) ≡ 30 = omega arith in
+    omega (arith, rw q at (read-most K t (30 - t)), read-all K)
+
 -- ---- where an element goes, and where it comes from
 
 -- row r of the column of turn t
@@ -86,6 +93,15 @@ unfolding comesFrom
 source-below K j h =
     let p = turn-passes K j h in
     omega (arith, p .low, p .high, read-suc K (turnAt K j), order-turn (turnAt K j) (p .below) .0)
+
+-- in the turn that has index j: row by row down its column
+pub source-row : (K t j : ℕ) → t < 30 → readBefore K t ≤ j → j < readBefore K (suc t) → comesFrom K j ≡ 30 * (j - readBefore K t) + getD order t 0
+unfolding comesFrom
+source-row K t j h low high =
+    let up : (k : ℕ) → k < 30 → readBefore K k ≤ readBefore K (suc k) = λ k m. omega (arith, read-suc K k) in
+    let b : j < K = omega (arith, read-within K (suc t) (omega arith)) in
+    let q : turnAt K j ≡ t = passes-one (readBefore K) j 30 (turnAt K j) t up (turn-passes K j b) h low high in
+    rw q refl
 
 pub place-source : (K j : ℕ) → j < K → goesTo K (comesFrom K j) ≡ j
 unfolding comesFrom
@@ -132,9 +148,36 @@ source-place K k h =
     ∙ second-place xs k 0 (omega (arith, e))
     ∙ table-get (λ i. i) K k 0 h
 
+-- no two indices come from one element
+pub source-once : (K i j : ℕ) → i < K → j < K → comesFrom K i ≡ comesFrom K j → i ≡ j
+source-once K i j hi hj e = sym (place-source K i hi) ∙ ap (goesTo K) e ∙ place-source K j hj
+
 -- no two elements go to one place
 pub place-once : (K i j : ℕ) → i < K → j < K → goesTo K i ≡ goesTo K j → i ≡ j
 place-once K i j hi hj e = sym (source-place K i hi) ∙ ap (comesFrom K) e ∙ source-place K j hj
+
+-- ---- written through: what is put where index j comes from stands at index j
+
+module _ {A : Type 0} where
+  pub second-set : (l : List A) (j : ℕ) (v : A) → j < length l → secondInterleaved (set l (comesFrom (length l) j) v) ≡ set (secondInterleaved l) j v
+  second-set l j v h =
+      let w = set l (comesFrom (length l) j) v in
+      let n : length w ≡ length l = length-set l (comesFrom (length l) j) v in
+      ext-getD v _ _ (second-length w ∙ n ∙ sym (second-length l) ∙ sym (length-set (secondInterleaved l) j v))
+      (λ i b.
+      let bi : i < length l = omega (arith, second-length w, n) in
+      second-at w i v (omega (arith, n)) ∙ ap (λ (k : ℕ). getD w (comesFrom k i) v) n ∙ side i bi (ℕ-discrete i j))
+    where
+      side : (i : ℕ) → i < length l → Dec (i ≡ j)
+          → getD (set l (comesFrom (length l) j) v) (comesFrom (length l) i) v ≡ getD (set (secondInterleaved l) j v) i v
+      side i b (yes q) =
+          rw q
+          (getD-set-same l (comesFrom (length l) j) v v (source-below (length l) j h)
+          ∙ sym (getD-set-same (secondInterleaved l) j v v (omega (arith, second-length l))))
+      side i b (no q) =
+          getD-set-other l (comesFrom (length l) j) (comesFrom (length l) i) v v (λ e. q (source-once (length l) i j b h e))
+          ∙ sym (second-at l i v b)
+          ∙ sym (getD-set-other (secondInterleaved l) j i v v q)
 
 -- ---- undoing, and maps
 

@@ -1,55 +1,70 @@
--- The walk over the columns of step 8: which element is read next, and to which index it goes.
+-- The walk over the turns of step 8.
 use mathlib.Core.Path.{_≡_, refl, sym, ap, _∙_}
 use mathlib.Core.List.{List}
 use Prim.Native.Nat.{ℕ, suc, _+_, _*_, _-_, _≤_, _<_}
 use native.Mathlib.Numerals.{add-one}
 use native.Mathlib.Omega.{arith}
-use lib.ListN.{length, getD, set}
+use lib.ListN.{getD, set, replicate, length-replicate}
 use Rattle.laws.specs.Sums.{sumTo}
-use Rattle.laws.proofs.FillingLaws.{filling-starts, filling-put, filling-next, filling-ends}
-use Rattle.laws.proofs.LeastLaws.{passes-one}
+use Rattle.laws.specs.Filling.{Filling}
+use Rattle.laws.proofs.FillingLaws.{filling-next}
 use Rattle.laws.proofs.TestLaws.{split}
-use Rattle.laws.proofs.TableLaws.{tabled}
 use Rattle.orders.specs.Orders.{order}
-use Rattle.orders.proofs.OrderLaws.{order-turn}
 use Rattle.interleaving.specs.Columns.{height}
-use Rattle.interleaving.specs.Second.{secondInterleaved, readBefore, goesTo, turnAt, comesFrom, secondUndone}
-use Rattle.interleaving.specs.Descent.{Turned, Down, Woven, Unwoven}
-use Rattle.interleaving.proofs.SecondLaws.{read-suc, read-all, place-row, place-below, place-once, turn-passes, second-length, second-place}
+use Rattle.interleaving.specs.Second.{readBefore, comesFrom}
+use Rattle.interleaving.specs.Turns.{Turned, Seated}
+use Rattle.interleaving.specs.declared.second.Seat.{Seat}
+use Rattle.interleaving.proofs.SecondLaws.{read-suc, read-all, read-within, source-row}
 
-pub turned-down : {K t k i : ℕ} → Turned K t k → t < 30 → i ≡ getD order t 0 → Down K t k i
-turned-down {K} {t} w h q =
-    record { turn = h; from = omega (arith, w .index); to = omega (arith, w .index, read-suc K t); index = omega (arith, w .index) }
+-- ---- where the turns begin
 
-turned-starts : (K : ℕ) → Turned K 0 0
+begins-starts : (K : ℕ) → Filling 0 (readBefore K) (λ t. t) 31 (replicate 31 0) 1
 unfolding sumTo
-turned-starts K = record { turn = omega arith; index = refl }
+begins-starts K =
+    record { long = length-replicate {A = ℕ} 31 0; each = λ t b h. let e : t ≡ 0 = omega arith in rw e refl }
 
-turned-all : {K t k : ℕ} → Turned K t k → 30 ≤ t → k ≡ K
-turned-all {K} {t} w h = let e : t ≡ 30 = omega (arith, w .turn) in w .index ∙ ap (readBefore K) e ∙ read-all K
+-- the beginnings of the turns up to t are known
+pub record Begins (K : ℕ) (begins : List ℕ) (t : ℕ) : Type 0 where
+  pub some : t ≤ 30
+  pub filling : Filling 0 (readBefore K) (λ s. s) 31 begins (t + 1)
 
-module _ {K t k i : ℕ} (r : Down K t k i) where
-  pub down-ends : K ≤ i → Turned K (t + 1) k
-  down-ends h = record {
-    turn = omega (arith, r .turn);
-    index = rw (add-one t) (omega (arith, r .from, r .to, r .index, read-suc K t, order-turn t (r .turn) .0));
-  }
+pub begins-none : (K : ℕ) → Begins K (replicate 31 0) 0
+begins-none K = record { some = omega arith; filling = begins-starts K }
 
-  module _ (h : i < K) where
-    down-next : Down K t (k + 1) (i + 30)
-    down-next =
-        record {
-          turn = r .turn;
-          from = omega (arith, r .from);
-          to = omega (arith, r .from, r .index, read-suc K t, order-turn t (r .turn) .0);
-          index = omega (arith, r .from, r .index);
-        }
+module _ {K t : ℕ} {begins : List ℕ} (b : Begins K begins t) where
+  pub begins-at : getD begins t 0 ≡ readBefore K t
+  begins-at = b .filling .each t (omega (arith, b .some)) (omega arith)
 
-    down-place : goesTo K i ≡ k
-    down-place = ap (goesTo K) (r .index) ∙ place-row K t (k - readBefore K t) (r .turn) ∙ omega (arith, r .from)
+  pub begins-next : {h x : ℕ} → t < 30 → h ≡ height 30 K (getD order t 0) → x ≡ getD begins t 0 + h → Begins K (set begins (t + 1) x) (t + 1)
+  begins-next {h} {x} l e q =
+      record { some = omega arith; filling = filling-next (b .filling) x (omega arith) (rw (add-one t) (omega (arith, q, e, begins-at, read-suc K t))) }
 
-    pub down-below : k < K
-    down-below = omega (arith, down-place, place-below K i h)
+  pub begins-all : 30 ≤ t → Turned K begins
+  begins-all l = record { long = b .filling .long; each = λ s h. b .filling .each s h (omega arith) }
+
+-- past a turn there is another
+pub turn-more : {K k t : ℕ} {begins : List ℕ} → Turned K begins → t < 30 → k < K → getD begins (t + 1) 0 ≤ k → (t + 1 < 30) × (readBefore K (t + 1) ≤ k)
+turn-more {K} {k} {t} b h l m =
+    let e = b .each (t + 1) (omega arith) in
+    split t 28 (λ le. (omega arith, omega (arith, e)))
+    (λ lt. let q : t + 1 ≡ 30 = omega arith in absurd (omega (arith, e, ap (readBefore K) q, read-all K)))
+
+-- the turn of an index gives its seat
+pub seated : {K k : ℕ} {begins : List ℕ} {s : Seat} → Turned K begins → s .turn < 30 → readBefore K (s .turn) ≤ k → k < readBefore K (s .turn + 1)
+    → s .from ≡ 30 * (k - getD begins (s .turn) 0) + getD order (s .turn) 0 → s .end ≡ getD begins (s .turn + 1) 0 → Seated K k s
+seated {K} {k} {begins} {s} b h low high from end =
+    let t = s .turn in
+    let e : s .end ≡ readBefore K (suc t) = end ∙ b .each (t + 1) (omega arith) ∙ ap (readBefore K) (add-one t) in
+    let u : k < readBefore K (suc t) = rw (add-one t) at high in
+    let g = b .each t (omega arith) in
+    record {
+      turn = h;
+      begun = low;
+      inside = omega (arith, e, u);
+      last = omega (arith, e, read-within K (suc t) (omega arith));
+      from = from ∙ omega (arith, g, source-row K t k h low u);
+      row = λ j n l m. omega (arith, source-row K t (j + n) h (omega arith) (omega (arith, e)), source-row K t j h l (omega (arith, e)));
+    }
 
 -- the walk back: index j lies in turn t or past it, left elements further
 pub record Passing (K j t c h left : ℕ) : Type 0 where
@@ -82,42 +97,5 @@ module _ {K j t c h left : ℕ} (p : Passing K j t c h left) where
 
     -- within the turn
     pub passing-ends : left < h → 30 * left + c ≡ comesFrom K j
-    unfolding comesFrom
     passing-ends b =
-        let up : (k : ℕ) → k < 30 → readBefore K k ≤ readBefore K (suc k) = λ k m. omega (arith, read-suc K k) in
-        let q : turnAt K j ≡ t =
-        passes-one (readBefore K) j 30 (turnAt K j) t up (turn-passes K j l) (p .turn) (omega (arith, p .index)) (omega (arith, p .index, passing-high))
-        in
-        rw q (omega (arith, p .index, p .column))
-
--- step 8: index k is written
-module _ {A : Type 0} {z : A} {src dst : List A} where
-  pub woven-starts : length dst ≡ length src → Woven z src dst 0 × Turned (length src) 0 0
-  woven-starts h = (record { filling = filling-starts dst h }, turned-starts (length src))
-
-  pub weave : {t k i : ℕ} → Woven z src dst k × Down (length src) t k i → i < length src
-      → Woven z src (set dst k (getD src i z)) (k + 1) × Down (length src) t (k + 1) (i + 30)
-  weave {i = i} w h =
-      let e = sym (second-place src i z h) ∙ ap (λ (j : ℕ). getD (secondInterleaved src) j z) (down-place (w .1) h) in
-      (record { filling = filling-next (w .0 .filling) (getD src i z) (down-below (w .1) h) e }, down-next (w .1) h)
-
-  pub woven-ends : {t k : ℕ} → Woven z src dst k × Turned (length src) t k → 30 ≤ t → dst ≡ secondInterleaved src
-  woven-ends w h =
-      filling-ends (w .0 .filling) (λ j l. omega (arith, turned-all (w .1) h))
-      ∙ sym (tabled (λ j. getD (secondInterleaved src) j z) (secondInterleaved src) (length src) z (second-length src) (λ j l. refl))
-
-  -- undone: element i is written
-  pub unwoven-starts : length dst ≡ length src → Unwoven z src dst 0 × Turned (length src) 0 0
-  unwoven-starts h = (record { filling = filling-starts dst h }, turned-starts (length src))
-
-  pub unweave : {t k i : ℕ} → Unwoven z src dst k × Down (length src) t k i → i < length src
-      → Unwoven z src (set dst i (getD src k z)) (k + 1) × Down (length src) t (k + 1) (i + 30)
-  unweave {k = k} {i = i} w h =
-      let e = down-place (w .1) h in
-      let q : getD src k z ≡ getD src (goesTo (length src) i) z = ap (λ (j : ℕ). getD src j z) (sym e) in
-      let f = filling-put (w .0 .filling) i (getD src k z) h (λ j l v. place-once (length src) j i l h (v ∙ sym e)) q e in
-      (record { filling = f }, down-next (w .1) h)
-
-  pub unwoven-ends : {t k : ℕ} → Unwoven z src dst k × Turned (length src) t k → 30 ≤ t → dst ≡ secondUndone z src
-  unfolding secondUndone
-  unwoven-ends w h = filling-ends (w .0 .filling) (λ j l. omega (arith, turned-all (w .1) h, place-below (length src) j l))
+        sym (source-row K t j (p .turn) (omega (arith, p .index)) (omega (arith, p .index, passing-high)) ∙ omega (arith, p .index, p .column))

@@ -1,7 +1,7 @@
 -- Steps 1 to 3: equalisation, first interleaving, segmentation; and the undoing of 2 and 1. F is framesIn tti, n is N.
 use mathlib.Core.Path.{_≡_}
 use mathlib.Core.List.{List, _++_}
-use Prim.Native.Nat.{ℕ, _+_, _*_, _-_, _/_, _%_, _≤_, _<_}
+use Prim.Native.Nat.{ℕ, _+_, _*_, _-_, _/_, _%_, _≤_}
 use lib.ListN.{length, getD, take, drop, replicate}
 use Rattle.laws.specs.Tables.{table}
 use Rattle.sheet.specs.Counts.{mostTti}
@@ -29,13 +29,6 @@ seat tti n k = columnAt tti (k % framesIn tti) * n + k / framesIn tti
 -- steps 2 and 1 undone: the first e elements in the coder's order; z is read nowhere if ys has F x N
 unfoldable pub finished : {A : Type 0} → A → ℕ → ℕ → ℕ → List A → List A
 finished z tti n e ys = table (λ k. getD ys (seat tti n k) z) 0 e
-
--- what is lent for one segment: at most F x N bits, and room for N
-pub record Segmenting (tti n frame contents out : ℕ) : Type 0 where
-  pub known : tti ≤ mostTti
-  pub inside : frame < framesIn tti
-  pub fits : contents ≤ framesIn tti * n
-  pub room : out ≡ n
 
 -- what is lent for a finished channel: all F x N values, and room for at most as many
 pub record Finishing (tti n part out : ℕ) : Type 0 where

@@ -1,4 +1,4 @@
 pub mod Columns
 pub mod First
 pub mod Second
-pub mod Descent
+pub mod Turns

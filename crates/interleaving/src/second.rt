@@ -1,13 +1,12 @@
-// Step 8 and its undoing.
+// Step 8 as a walk over interleaved elements has it: which element each index comes from.
 ghost use mathlib.Core.Path.{_≡_};
 ghost use Prim.Native.Nat.{_+_, _≤_, _<_};
-ghost use lib.Ieee.{nan};
-ghost use lib.ListN.{length, getD};
+ghost use lib.ListN.{getD};
 ghost use Rattle.sheet.specs.Counts.{mostBits};
 ghost use Rattle.orders.specs.Orders.{order};
 ghost use Rattle.interleaving.specs.Columns.{height};
-ghost use Rattle.interleaving.specs.Second.{secondInterleaved, secondUndone, comesFrom};
-ghost use Rattle.interleaving.specs.Descent.{Turned, Down, Woven, Unwoven};
+ghost use Rattle.interleaving.specs.Second.{readBefore, comesFrom};
+ghost use Rattle.interleaving.specs.Turns.{Turned, Seated};
 
 // The column of turn t. The order is lent from a local, for the reason that `orders` gives.
 fn column_at(columns: &[u8; 30], t: usize) -> usize
@@ -17,70 +16,59 @@ fn column_at(columns: &[u8; 30], t: usize) -> usize
     columns[t] as usize
 }
 
-// The column of turn t is read downwards, to `index` and on. The answer is the index after it.
-fn read_column(src: &[u8], t: usize, column: usize, index: usize, dst: &mut [u8]) -> usize
-    requires { ⌜ Woven 0 (now src) (now dst) index × Down (length (now src)) t index column ⌝ }
-    ensures { λ r. ⌜ Woven 0 (now (src .entry)) (now (dst .exit)) r × Turned (length (now (src .entry))) (t + 1) r ⌝ }
-{
-    let mut from = column;
-    let mut k = index;
-    while from < src.len() {
-        dst[k] = src[from];
-        k += 1;
-        from += 30;
-    }
-    k
-}
-
-// The columns are read in their order, each downwards.
-pub fn interleave(src: &[u8], dst: &mut [u8])
-    requires { ⌜ length (now dst) ≡ length (now src) ⌝ }
-    ensures { λ _. ⌜ now (dst .exit) ≡ secondInterleaved (now (src .entry)) ⌝ }
-{
-    let order = orders::columns();
-    let mut k = 0;
-    let mut t = 0;
-    while t < 30 {
-        k = read_column(src, t, column_at(&order, t), k, dst);
-        t += 1;
-    }
-}
-
-// The same, with the column written.
-fn write_column(src: &[f32], t: usize, column: usize, index: usize, dst: &mut [f32]) -> usize
-    requires { ⌜ Unwoven nan (now src) (now dst) index × Down (length (now src)) t index column ⌝ }
-    ensures { λ r. ⌜ Unwoven nan (now (src .entry)) (now (dst .exit)) r × Turned (length (now (src .entry))) (t + 1) r ⌝ }
-{
-    let mut to = column;
-    let mut k = index;
-    while to < src.len() {
-        dst[to] = src[k];
-        k += 1;
-        to += 30;
-    }
-    k
-}
-
-// The columns are written in their order, each downwards.
-pub fn deinterleave(src: &[f32], dst: &mut [f32])
-    requires { ⌜ length (now dst) ≡ length (now src) ⌝ }
-    ensures { λ _. ⌜ now (dst .exit) ≡ secondUndone nan (now (src .entry)) ⌝ }
-{
-    let order = orders::columns();
-    let mut k = 0;
-    let mut t = 0;
-    while t < 30 {
-        k = write_column(src, t, column_at(&order, t), k, dst);
-        t += 1;
-    }
-}
-
 // How many of n elements column c holds.
 fn height_of(n: u64, c: u64) -> u64
     requires { ⌜ (n ≤ mostBits) × (c < 30) ⌝ }
     ensures { λ r. ⌜ r ≡ height 30 n c ⌝ }
 {
     (n + 29 - c) / 30
+}
+
+// Where each turn begins among n interleaved elements, and where the last ends.
+pub fn begin_turns(n: usize) -> [usize; 31]
+    requires { ⌜ n ≤ mostBits ⌝ }
+    ensures { λ r. ⌜ Turned n r ⌝ }
+{
+    let order = orders::columns();
+    let mut begins = [0usize; 31];
+    let mut t: usize = 0;
+    while t < 30 {
+        begins[t + 1] = begins[t] + height_of(n as u64, column_at(&order, t) as u64) as usize;
+        t += 1;
+    }
+    begins
+}
+
+// The seat of an index of interleaved elements: the turn in which it is read, the element that it comes from, and the turn's end.
+pub struct Seat {
+    pub turn: usize,
+    pub from: usize,
+    pub end: usize,
+}
+
+// The turn of index k of n, which is not before turn t.
+fn turn_from(begins: &[usize; 31], n: usize, t: usize, k: usize) -> usize
+    requires { ⌜ Turned n (now begins) × (t < 30) × (readBefore n t ≤ k) × (k < n) ⌝ }
+    ensures { λ r. ⌜ (r < 30) × (readBefore n r ≤ k) × (k < readBefore n (r + 1)) ⌝ }
+{
+    let mut r = t;
+    while begins[r + 1] <= k {
+        r += 1;
+    }
+    r
+}
+
+// Its seat. A walk goes from seat to seat, so that it looks for none twice.
+pub fn seat_from(begins: &[usize; 31], columns: &[u8; 30], n: usize, t: usize, k: usize) -> Seat
+    requires { ⌜ Turned n (now begins) × (now columns ≡ order) × (t < 30) × (readBefore n t ≤ k) × (k < n) × (n ≤ mostBits) ⌝ }
+    ensures { λ r. ⌜ Seated n k r ⌝ }
+{
+    let turn = turn_from(begins, n, t, k);
+    Seat {
+        turn,
+        from: 30 * (k - begins[turn]) + column_at(columns, turn),
+        end: begins[turn + 1],
+    }
 }
 
 // From where step 8 reads what stands at index j of n: the columns are passed in their order, up to the one that holds it.

@@ -8,5 +8,6 @@ pub mod DoneLaws
 pub mod WalkLaws
 pub mod RunLaws
 pub mod LineLaws
+pub mod AlongLaws
 pub mod PairLaws
 pub mod SlotLaws

@@ -1,71 +1,247 @@
 -- Laws of copying along a line: its loop, and what stands once a line of a pair is copied, whichever way.
-use mathlib.Core.Path.{_≡_, refl, sym, ap, _∙_}
-use mathlib.Core.List.{List}
+use mathlib.Core.Path.{_≡_, refl, sym, ap, ap₂, _∙_, fun-ext}
+use mathlib.Core.List.{List, [], _∷_, _++_}
 use mathlib.Core.Logic.{_⊎_, inl, inr, ⊎-elim}
-use Prim.Native.Nat.{ℕ, zero, suc, _+_, _-_, _≤_, _<_}
+use Prim.Native.Nat.{ℕ, zero, suc, _+_, _*_, _-_, _≤_, _<_}
+use native.Mathlib.Nat.{mul-le-mul-right, suc-mul, zero-add, suc-add}
 use native.Mathlib.Decide.{decLt, ℕ-discrete}
 use native.Mathlib.Numerals.{add-one}
 use native.Mathlib.Omega.{arith}
-use lib.ListN.{length, getD, set, length-set}
-use lib.Seq.{getD-set-same, getD-set-other}
+use borrow.Rule.Slice.PartMut.{putMid, put-same, same-len-mid, take-put}
+use lib.ListN.{length, getD, set, take, drop, length-set, length-drop}
+use lib.Arith.{lt-of-le-ne}
+use lib.Seq.{ext-getD, getD-set-same, getD-set-other, getD-take, getD-drop, length-take-le, set-append-left, take-at, drop-at}
 use Rattle.laws.specs.Sums.{sumTo}
 use Rattle.laws.proofs.TestLaws.{split}
+use Rattle.interleaving.specs.Second.{secondInterleaved, readBefore, comesFrom}
+use Rattle.interleaving.specs.Turns.{Seated}
+use Rattle.interleaving.specs.declared.second.Seat.{Seat}
+use Rattle.interleaving.proofs.SecondLaws.{source-below, second-at, second-set}
 use Rattle.mapping.specs.declared.pairs.Pair.{Pair}
-use Rattle.mapping.specs.declared.pairs.Line.{Line}
+use Rattle.mapping.specs.declared.lines.Line.{Line}
 use Rattle.mapping.specs.Mapping.{posOf}
-use Rattle.mapping.specs.Pairs.{capsIn, runsIn, placeIn, lineOf, bitOn, rankOn, spotOn, copied, Fit, Within, Traced}
+use Rattle.mapping.specs.Lines.{bitOn, rankOn, spotOn, indexOn, copied, wholeLine, Within, partFrom}
+use Rattle.mapping.specs.Pairs.{capsIn, runsIn, placeIn, lineOf, Fit, Traced}
 use Rattle.mapping.proofs.TurnLaws.{placeOf-within, placeOf-apart}
 use Rattle.mapping.proofs.RunLaws.{in-runs-some}
 
--- the loop of a copy: i elements are copied, and the next is bit k, bit y of its PhCH
-pub record Copying {A : Type 0} (d : A) (l : Line) (from to : ℕ → ℕ) (src old : List A) (i k y : ℕ) (w : List A) : Type 0 where
+-- the loop of a copy: i elements are passed, and the next has index k, and is bit y of its PhCH
+pub record Counting (l : Line) (at i k y : ℕ) : Type 0 where
   pub far : i ≤ l .count
-  pub bit : k ≡ bitOn l i
+  pub index : k ≡ indexOn at l i
   pub rank : y ≡ rankOn l i
-  pub is : w ≡ copied d from to src i old
 
-module _ {A : Type 0} (d : A) (l : Line) (from to : ℕ → ℕ) (src old : List A) where
-  pub copying-starts : Copying d l from to src old 0 (l .bit) (l .rank) old
-  unfolding copied
-  copying-starts = record { far = omega arith; bit = omega arith; rank = omega arith; is = refl }
+pub counting-starts : (l : Line) (at : ℕ) → Counting l at 0 (at + l .bit) (l .rank)
+counting-starts l at = record { far = omega arith; index = omega arith; rank = omega arith }
 
-  pub copied-length : (n : ℕ) → length (copied d from to src n old) ≡ length old
-  unfolding copied
-  copied-length zero = refl
-  copied-length (suc n) = length-set (copied d from to src n old) (to n) (getD src (from n) d) ∙ copied-length n
+module _ {l : Line} {at i k y : ℕ} (c : Counting l at i k y) where
+  -- the index tells whether there is one more
+  pub counting-some : k < at + l .bit + l .count * l .step → i < l .count
+  counting-some h =
+      split (l .count) i (λ le. let e : i ≡ l .count = omega (arith, c .far) in absurd (omega (arith, c .index, ap (λ (n : ℕ). n * l .step) e)))
+      (λ lt. lt)
 
-module _ {A : Type 0} {d : A} {l : Line} {from to : ℕ → ℕ} {src old : List A} {i k y : ℕ} {w : List A}
-    (c : Copying d l from to src old i k y w) where
-  pub copying-length : length w ≡ length old
-  copying-length = ap length (c .is) ∙ copied-length d l from to src old i
-
-  pub copying-ends : l .count ≤ i → w ≡ copied d from to src (l .count) old
-  copying-ends h = let e : i ≡ l .count = omega (arith, c .far) in c .is ∙ ap (λ (n : ℕ). copied d from to src n old) e
+  pub counting-ends : 0 < l .step → at + l .bit + l .count * l .step ≤ k → i ≡ l .count
+  counting-ends p h =
+      split (l .count) i (λ le. omega (arith, c .far))
+      (λ lt. let m : suc i ≤ l .count = lt in absurd (omega (arith, c .index, mul-le-mul-right (l .step) m)))
 
   -- the place that the code works out
   pub spot-is : {n : ℕ} → n ≡ l .base + (posOf (l .room) (l .p + 1) y - 1) → n ≡ spotOn l i
   spot-is e = e ∙ ap (λ (z : ℕ). l .base + (posOf (l .room) (l .p + 1) z - 1)) (c .rank)
 
   module _ (h : i < l .count) where
-    pub copying-more : {m n : ℕ} → m ≡ from i → n ≡ to i → Copying d l from to src old (i + 1) (k + l .step) (y + l .apart) (set w n (getD src m d))
-    unfolding copied
-    copying-more a b = record {
-      far = omega arith;
-      bit = omega (arith, c .bit);
-      rank = omega (arith, c .rank);
-      is = rw (add-one i, a, b, c .is);
-    }
+    pub counting-more : Counting l at (i + 1) (k + l .step) (y + l .apart)
+    counting-more = record { far = omega arith; index = omega (arith, c .index); rank = omega (arith, c .rank) }
 
     -- where it reads and writes
     module _ {bits places : ℕ} (g : Within bits places l) where
-      pub copying-rank : (y < l .room) × (l .base + l .room < 18446744073709551616)
-      copying-rank = omega (arith, c .rank, g .inside i h, g .room, g .few)
+      pub counting-rank : (y < l .room) × (l .base + l .room < 18446744073709551616)
+      counting-rank = omega (arith, c .rank, g .inside i h, g .room, g .few)
 
-      pub copying-bit : k < bits
-      copying-bit = omega (arith, c .bit, g .given i h)
+      pub counting-index : k < at + bits
+      counting-index = omega (arith, c .index, g .given i h)
 
-      pub copying-fits : (k + l .step < 18446744073709551616) × (y + l .apart < 18446744073709551616)
-      copying-fits = omega (arith, copying-bit, copying-rank .0, g .near, g .few, g .room)
+module _ {A : Type 0} (d : A) (from to : ℕ → ℕ) (src : List A) where
+  pub copied-length : (old : List A) (n : ℕ) → length (copied d from to src n old) ≡ length old
+  unfolding copied
+  copied-length old zero = refl
+  copied-length old (suc n) = length-set (copied d from to src n old) (to n) (getD src (from n) d) ∙ copied-length old n
+
+  pub copied-none : (old : List A) → old ≡ copied d from to src 0 old
+  unfolding copied
+  copied-none old = refl
+
+  -- i are copied into w, where j were into v
+  pub record Copied (j : ℕ) (v : List A) (i : ℕ) (w : List A) : Type 0 where
+    pub long : length w ≡ length v
+    pub more : (old : List A) → v ≡ copied d from to src j old → w ≡ copied d from to src i old
+
+module _ {A : Type 0} {d : A} {from to : ℕ → ℕ} {src : List A} where
+  pub copied-same : (j : ℕ) (v : List A) → Copied d from to src j v j v
+  copied-same j v = record { long = refl; more = λ old q. q }
+
+  pub copied-more : {j i m n : ℕ} {v w u : List A} → Copied d from to src j v i w → m ≡ from i → n ≡ to i → u ≡ set w n (getD src m d)
+      → Copied d from to src j v (i + 1) u
+  unfolding copied
+  copied-more {i = i} {m} {n} {w = w} c a b e = record {
+    long = ap length e ∙ length-set w n (getD src m d) ∙ c .long;
+    more = λ old q. e ∙ rw (add-one i, a, b, c .more old q);
+  }
+
+-- a line's numbers fit
+pub within-span : {bits places : ℕ} {l : Line} → Within bits places l → l .count * l .step ≤ bits + 32
+within-span {bits} {places} {l} g =
+    split (l .count) 0 (λ le. let e : l .count ≡ 0 = omega arith in rw e (omega arith))
+    (λ lt.
+    let c = l .count - 1 in
+    let e : l .count ≡ suc c = omega arith in
+    let b : bitOn l c < bits = g .given c (omega arith) in
+    rw e (omega (arith, b, g .near, suc-mul c (l .step))))
+
+-- ---- through step 8
+
+-- index k comes from `from`, as long as the turn goes
+pub record Coming (K : ℕ) (s : Seat) (k from : ℕ) : Type 0 where
+  pub begun : readBefore K (s .turn) ≤ k
+  pub comes : k < s .end → from ≡ comesFrom K k
+
+pub coming-starts : {K k : ℕ} {s : Seat} → Seated K k s → Coming K s k (s .from)
+coming-starts e = record { begun = e .begun; comes = λ h. e .from }
+
+pub coming-more : {K j k from : ℕ} {s : Seat} (n : ℕ) → Seated K j s → Coming K s k from → k < s .end → Coming K s (k + n) (from + 30 * n)
+coming-more {k = k} n e c h = record { begun = omega (arith, c .begun); comes = λ m. omega (arith, c .comes h, e .row k n (c .begun) m) }
+
+module _ {A : Type 0} {K j k from : ℕ} {s : Seat} (xs : List A) (n : length xs ≡ K) (e : Seated K j s) (c : Coming K s k from) (h : k < s .end) where
+  pub coming-below : from < length xs
+  coming-below = omega (arith, n, c .comes h, e .last, source-below K k (omega (arith, e .last)))
+
+  here : from ≡ comesFrom (length xs) k
+  here = c .comes h ∙ ap (λ (m : ℕ). comesFrom m k) (sym n)
+
+  -- the element read there, and what an element written there does
+  pub coming-read : (d : A) → getD xs from d ≡ getD (secondInterleaved xs) k d
+  coming-read d = ap (λ (i : ℕ). getD xs i d) here ∙ sym (second-at xs k d (omega (arith, n, e .last)))
+
+  pub coming-write : (v : A) → secondInterleaved (set xs from v) ≡ set (secondInterleaved xs) k v
+  coming-write v = ap (λ (i : ℕ). secondInterleaved (set xs i v)) here ∙ second-set xs k v (omega (arith, n, e .last))
+
+-- ---- a part of a longer list
+
+set-append-right : {A : Type 0} (xs ys : List A) (i : ℕ) (a : A) → set (xs ++ ys) (length xs + i) a ≡ xs ++ set ys i a
+set-append-right [] ys i a = ap (λ (n : ℕ). set ys n a) (zero-add i)
+set-append-right (x ∷ xs) ys i a =
+    ap (λ (n : ℕ). set (x ∷ xs ++ ys) n a) (suc-add (length xs) i) ∙ ap (λ (l : List _). x ∷ l) (set-append-right xs ys i a)
+
+pub part-length : {A : Type 0} (w : List A) (at n : ℕ) → at + n ≤ length w → length (partFrom at n w) ≡ n
+part-length w at n b = length-take-le n (drop at w) (omega (arith, length-drop at w))
+
+module _ {A : Type 0} (d : A) (from to : ℕ → ℕ) (at n : ℕ) where
+  -- what is read of a part
+  pub copied-part : (src w : List A) (c : ℕ) → ((i : ℕ) → i < c → from i < n)
+      → copied d (λ i. at + from i) to src c w ≡ copied d from to (partFrom at n src) c w
+  unfolding copied
+  copied-part src w zero h = refl
+  copied-part src w (suc c) h =
+      ap₂ (λ (l : List A) (x : A). set l (to c) x) (copied-part src w c (λ i m. h i (omega arith)))
+      (sym (getD-take n (drop at src) (from c) d (h c (omega arith)) ∙ getD-drop at src (from c) d))
+
+  -- what is written over a part
+  pub copied-over : (src w : List A) (c : ℕ) → at + n ≤ length w → ((i : ℕ) → i < c → to i < n)
+      → copied d from (λ i. at + to i) src c w ≡ putMid at n w (copied d from to src c (partFrom at n w))
+  unfolding copied
+  copied-over src w zero b h = sym (put-same at n w)
+  copied-over src w (suc c) b h =
+      let x = getD src (from c) d in
+      let ys = copied d from to src c (partFrom at n w) in
+      let m : length ys ≡ n = copied-length d from to src (partFrom at n w) c ∙ part-length w at n b in
+      ap (λ (l : List A). set l (at + to c) x) (copied-over src w c b (λ i l. h i (omega arith)))
+      ∙ ap (λ (k : ℕ). set (putMid at n w ys) (k + to c) x) (sym (length-take-le at w (omega arith)))
+      ∙ set-append-right (take at w) _ (to c) x
+      ∙ ap (λ (l : List A). take at w ++ l) (set-append-left ys _ (to c) x (omega (arith, m, h c (omega arith))))
+
+-- all of a list, in order
+module _ {A : Type 0} (d : A) (src w : List A) (e : length w ≡ length src) where
+  first-of : (i j : ℕ) → i ≤ length src → j < i → getD (copied d (λ k. k) (λ k. k) src i w) j d ≡ getD src j d
+  unfolding copied
+  first-of zero j h l = absurd (omega arith)
+  first-of (suc i) j h l = elim (ℕ-discrete j i) [
+    | yes q ↦ rw q (getD-set-same (copied d (λ k. k) (λ k. k) src i w) i (getD src i d) d (omega (arith, e, copied-length d (λ k. k) (λ k. k) src w i)))
+    | no q ↦ getD-set-other (copied d (λ k. k) (λ k. k) src i w) i j (getD src i d) d q ∙ first-of i j (omega arith) (lt-of-le-ne {i = j} {k = i} (omega arith) q)
+  ]
+
+  pub copied-all : copied d (λ k. k) (λ k. k) src (length src) w ≡ src
+  copied-all =
+      ext-getD d _ _ (copied-length d (λ k. k) (λ k. k) src w (length src) ∙ e)
+      (λ j l. first-of (length src) j (omega arith) (omega (arith, copied-length d (λ k. k) (λ k. k) src w (length src), e)))
+
+-- a line of a whole slot: where it stands, and what copying along it does
+pub whole-within : (n : ℕ) → n < 4294967296 → Within n n (wholeLine n)
+whole-within n h = record {
+  given = λ i l. omega arith;
+  inside = λ i l. omega arith;
+  room = omega arith;
+  few = (h, h, omega arith);
+  near = (omega arith, omega arith);
+  some = omega arith;
+}
+
+module _ {A : Type 0} (d : A) (at n : ℕ) where
+  spots : spotOn (wholeLine n) ≡ (λ i. i)
+  unfolding posOf
+  spots = fun-ext (λ i. omega arith)
+
+  bits : bitOn (wholeLine n) ≡ (λ i. i)
+  bits = fun-ext (λ i. omega arith)
+
+  pub whole-put : (S w : List A) → at + n ≤ length S → length w ≡ n → copied d (indexOn at (wholeLine n)) (spotOn (wholeLine n)) S n w ≡ partFrom at n S
+  whole-put S w b e =
+      let m = part-length S at n b in
+      copied-part d (bitOn (wholeLine n)) (spotOn (wholeLine n)) at n S w n (λ i l. omega arith)
+      ∙ ap₂ (λ (f g : ℕ → ℕ). copied d f g (partFrom at n S) n w) bits spots
+      ∙ ap (λ (k : ℕ). copied d (λ i. i) (λ i. i) (partFrom at n S) k w) (sym m)
+      ∙ copied-all d (partFrom at n S) w (e ∙ sym m)
+
+  pub whole-take : (S ys : List A) → at + n ≤ length S → length ys ≡ n → copied d (spotOn (wholeLine n)) (indexOn at (wholeLine n)) ys n S ≡ putMid at n S ys
+  whole-take S ys b e =
+      copied-over d (spotOn (wholeLine n)) (bitOn (wholeLine n)) at n ys S n b (λ i l. omega arith)
+      ∙ ap (putMid at n S)
+      (ap₂ (λ (f g : ℕ → ℕ). copied d f g ys n (partFrom at n S)) spots bits
+      ∙ ap (λ (k : ℕ). copied d (λ i. i) (λ i. i) ys k (partFrom at n S)) (sym e)
+      ∙ copied-all d ys (partFrom at n S) (part-length S at n b ∙ sym e))
+
+module _ {A : Type 0} (w ys : List A) (at n : ℕ) (b : at + n ≤ length w) (m : length ys ≡ n) where
+  pub part-put : partFrom at n (putMid at n w ys) ≡ ys
+  part-put = ap (take n) (drop-at (take at w) _ at (length-take-le at w (omega arith))) ∙ take-at ys _ n m
+
+  -- a part written twice
+  pub put-put : (zs : List A) → putMid at n (putMid at n w ys) zs ≡ putMid at n w zs
+  put-put zs =
+      ap₂ (λ (u v : List A). u ++ (zs ++ v)) (take-put at n w ys (omega arith))
+      (ap (drop n) (drop-at (take at w) _ at (length-take-le at w (omega arith))) ∙ drop-at ys _ n m)
+
+-- ---- a list of which one part is written, time after time
+
+pub record Over {A : Type 0} (at n : ℕ) (old w : List A) : Type 0 where
+  pub fits : at + n ≤ length w
+  pub is : w ≡ putMid at n old (partFrom at n w)
+
+pub over-starts : {A : Type 0} (at n : ℕ) (old : List A) → at + n ≤ length old → Over at n old old
+over-starts at n old b = record { fits = b; is = sym (put-same at n old) }
+
+module _ {A : Type 0} {at n : ℕ} {old w v : List A} (ys : List A) (l : at + n ≤ length old) (o : Over at n old w) (m : length ys ≡ n) (e : v ≡ putMid at n w ys) where
+  pub over-part : partFrom at n v ≡ ys
+  over-part = ap (partFrom at n) e ∙ part-put w ys at n (o .fits) m
+
+  pub over-more : Over at n old v
+  over-more = record {
+    fits = omega (arith, ap length e ∙ same-len-mid at n w ys (m ∙ sym (part-length w at n (o .fits))), o .fits);
+    is =
+        e
+        ∙ ap (λ (x : List A). putMid at n x ys) (o .is)
+        ∙ put-put old (partFrom at n w) at n l (part-length w at n (o .fits)) ys
+        ∙ ap (putMid at n old) (sym over-part);
+  }
 
 -- the bits of which S holds stand in w where they go
 pub record Stood {A : Type 0} (t : Pair) (d : A) (bits : List A) (S : ℕ → Type 0) (w : List A) : Type 0 where

@@ -10,9 +10,10 @@ use Rattle.laws.specs.Sums.{sumTo}
 use Rattle.laws.proofs.SumLaws.{sum-within}
 use Rattle.laws.proofs.TestLaws.{split}
 use Rattle.mapping.specs.declared.pairs.Pair.{Pair}
-use Rattle.mapping.specs.declared.pairs.Line.{Line}
+use Rattle.mapping.specs.declared.lines.Line.{Line}
 use Rattle.mapping.specs.Mapping.{place, numberOf, inRuns}
-use Rattle.mapping.specs.Pairs.{capsIn, runsIn, byRounds, byTurn, byOther, lineOf, lines, bitOn, rankOn, Fit, Traced}
+use Rattle.mapping.specs.Lines.{bitOn, rankOn}
+use Rattle.mapping.specs.Pairs.{capsIn, runsIn, byRounds, byTurn, byOther, lineOf, lines, Fit, Traced}
 use Rattle.mapping.proofs.TurnLaws.{place-gets, placeOf-number}
 use Rattle.mapping.proofs.LineLaws.{pair-runs, pair-total}
 
@@ -49,10 +50,10 @@ module _ {t : Pair} (f : Fit t) where
       (λ a. let e = lt-ltb k (byRounds t) a in row a (rw e) (rw e (mod-lt k (omega (arith, f .runs .first)))))
 
   -- a line that its numbers show: its bits are those of PhCH p in order, and no other bits are on it
-  traced : (j : ℕ) (l : Line) → l .p < 2 → l .base ≡ sumTo (capsIn t) (l .p) → l .room ≡ capsIn t (l .p) → (l .step ≤ 32) × (l .apart ≤ 16)
+  traced : (j : ℕ) (l : Line) → l .p < 2 → l .base ≡ sumTo (capsIn t) (l .p) → l .room ≡ capsIn t (l .p) → (l .step ≤ 32) × (l .apart ≤ 16) → (0 < l .step) × (l .bit < 4294967296)
       → ((i : ℕ) → i < l .count → (rankOn l i < capsIn t (l .p)) × (numberOf (capsIn t) (runsIn t) 2 (l .p) (rankOn l i) ≡ bitOn l i))
       → ((k : ℕ) → k < t .u + t .v → lineOf t k ≡ j → (i : ℕ) × (i < l .count) × (k ≡ bitOn l i)) → Traced t j l
-  traced j l h e z near number all = record {
+  traced j l h e z near some number all = record {
     within =
         record {
           given = λ i m.
@@ -60,8 +61,9 @@ module _ {t : Pair} (f : Fit t) where
               rw (← n .1, ← pair-total f) (place-gets (capsIn t) (runsIn t) 2 (pair-runs f) (l .p) (rankOn l i) h (n .0) .0);
           inside = λ i m. rw z (number i m .0);
           room = omega (arith, e, z, sum-within (capsIn t) (l .p) 2 h, pair-total f);
-          few = omega (arith, f .small, f .little);
+          few = omega (arith, f .small, f .little, some .1);
           near = near;
+          some = some .0;
         };
     goes = λ i m.
         let n = number i m in
@@ -80,7 +82,7 @@ module _ {t : Pair} (f : Fit t) where
       → Traced t j (record { bit = j; step = t .b + t .c; base = 0; p = 0; room = t .u; rank = j; apart = t .b; count = t .rounds })
   unfolding sumTo
   traced-first j h =
-      traced j _ (omega arith) refl refl (omega (arith, f .runs))
+      traced j _ (omega arith) refl refl (omega (arith, f .runs)) (omega (arith, f .runs))
       (λ i m.
       let m′ : suc i ≤ t .rounds = m in
       let e : j + i * t .b ≡ i * t .b + j = omega arith in
@@ -94,7 +96,7 @@ module _ {t : Pair} (f : Fit t) where
       → Traced t j (record { bit = j; step = t .b + t .c; base = t .u; p = 1; room = t .v; rank = j - t .b; apart = t .c; count = t .rounds })
   unfolding sumTo
   traced-second j g h =
-      traced j _ (omega arith) (omega arith) refl (omega (arith, f .runs))
+      traced j _ (omega arith) (omega arith) refl (omega (arith, f .runs)) (omega (arith, f .runs))
       (λ i m.
       let m′ : suc i ≤ t .rounds = m in
       let e : j - t .b + i * t .c ≡ i * t .c + (j - t .b) = omega arith in
@@ -109,7 +111,7 @@ module _ {t : Pair} (f : Fit t) where
       (record { bit = t .rounds * t .b + t .rounds * t .c; step = 1; base = 0; p = 0; room = t .u; rank = t .rounds * t .b; apart = 1; count = t .rest })
   unfolding sumTo
   traced-part =
-      traced (t .b + t .c) _ (omega arith) refl refl (omega arith)
+      traced (t .b + t .c) _ (omega arith) refl refl (omega arith) (omega (arith, f .small, f .little, f .part, f .full .first, f .full .second))
       (λ i m.
       let e : t .rounds * t .b + i * 1 ≡ t .rounds * t .b + i = omega arith in
       rw e (omega (arith, f .part), omega (arith, first-is (t .rounds) i (omega (arith, f .part)), f .full .second)))
@@ -131,7 +133,7 @@ module _ {t : Pair} (f : Fit t) where
       })
   unfolding sumTo
   traced-other =
-      traced (t .b + t .c + 1) _ (omega arith) (omega arith) refl (omega arith)
+      traced (t .b + t .c + 1) _ (omega arith) (omega arith) refl (omega arith) (omega (arith, f .small, f .little, f .part, f .full .first, f .full .second))
       (λ i m.
       let y = t .rounds * t .c + i in
       let e : t .rounds * t .c + i * 1 ≡ y = omega arith in
@@ -162,7 +164,7 @@ module _ {t : Pair} (f : Fit t) where
       })
   unfolding sumTo
   traced-last =
-      traced (t .b + t .c + 2) _ (omega arith) refl refl (omega arith)
+      traced (t .b + t .c + 2) _ (omega arith) refl refl (omega arith) (omega (arith, f .small, f .little, f .part, f .full .first, f .full .second))
       (λ i m.
       let y = t .rounds * t .b + t .rest + i in
       let e : t .rounds * t .b + t .rest + i * 1 ≡ y = omega arith in

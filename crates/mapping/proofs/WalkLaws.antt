@@ -18,18 +18,18 @@ pub walk-starts : (caps : List ℕ) (low : ℕ) → slotSize caps + length caps 
 unfolding sumTo
 walk-starts caps low s l =
     let z = walk-start (at caps) (length caps) in
-    record { small = s; least = l; inside = omega arith; begins = refl; number = sym z; part = omega arith; bit = λ h. sym z }
+    record { small = s; least = l; inside = omega arith; begins = refl; number = sym z; part = omega arith; fits = omega arith; bit = λ h. sym z }
 
 pub leg-of : {caps : List ℕ} {m : Mark} {u s e : ℕ} → Marked caps m × (m .p < length caps) → u ≡ at caps (m .p)
     → Steps (at caps) (length caps) (m .p) (m .x) s e → Leg caps m (record { room = u; stride = s; end = e })
 leg-of h e s = record { mark = h .0; inside = h .1; room = e; steps = s }
 
 module _ {caps : List ℕ} {m : Mark} {r : Stretch} (g : Leg caps m r) where
-  within : m .base + r .room ≤ slotSize caps
-  within = omega (arith, g .mark .begins, g .room, sum-within (at caps) (m .p) (length caps) (g .inside))
+  pub leg-within : m .base + r .room ≤ slotSize caps
+  leg-within = omega (arith, g .mark .begins, g .room, sum-within (at caps) (m .p) (length caps) (g .inside))
 
   pub base-fits : m .base + r .room < 18446744073709551616
-  base-fits = omega (arith, within, g .mark .small)
+  base-fits = omega (arith, leg-within, g .mark .small)
 
   first-next : m .first + min (r .room) 1 ≡ walk (at caps) (length caps) (m .p + 1) 0
   first-next = omega (arith, g .mark .number, g .room, walk-next (at caps) (length caps) (m .p) (g .inside))
@@ -49,10 +49,11 @@ module _ {caps : List ℕ} {m : Mark} {r : Stretch} (g : Leg caps m r) where
           begins = g .mark .begins;
           number = g .mark .number;
           part = g .steps .last;
+          fits = omega (arith, e h, walk-fits (at caps) (length caps) (m .p) (r .end));
           bit = λ l. e h;
         };
     moved = refl;
-    nearer = omega (arith, within, g .inside, g .steps .far (omega (arith, g .room, g .steps .from)));
+    nearer = omega (arith, leg-within, g .inside, g .steps .far (omega (arith, g .room, g .steps .from)));
   }
 
   -- it is full
@@ -67,10 +68,11 @@ module _ {caps : List ℕ} {m : Mark} {r : Stretch} (g : Leg caps m r) where
           begins = sum-more (at caps) (m .p) (g .mark .begins) (g .room);
           number = e ∙ first-next;
           part = omega arith;
+          fits = omega (arith, e, first-next, walk-fits (at caps) (length caps) (m .p + 1) 0);
           bit = λ l. e ∙ first-next;
         };
     moved = omega (arith, g .room, g .steps .last);
-    nearer = omega (arith, within, g .inside, g .room, g .steps .from, g .steps .last);
+    nearer = omega (arith, leg-within, g .inside, g .room, g .steps .from, g .steps .last);
   }
 
 module _ {A : Type 0} {caps : List ℕ} {d : A} {bits : List A} {m : Mark} {r : Stretch} {x k : ℕ} {w : List A}
@@ -93,7 +95,7 @@ module _ {A : Type 0} {caps : List ℕ} {d : A} {bits : List A} {m : Mark} {r : 
     along-bit = omega (arith, number, a .done .count, walk-inside (at caps) (length caps) (m .p) x (a .leg .inside) inside)
 
     pub along-place : {n : ℕ} → n < m .base + r .room → n < length w
-    along-place l = omega (arith, within (a .leg), a .done .room)
+    along-place l = omega (arith, leg-within (a .leg), a .done .room)
 
     pub along-fits : k + r .stride < 18446744073709551616
     along-fits = omega (arith, along-bit, a .done .count, a .leg .steps .less, a .leg .mark .small)

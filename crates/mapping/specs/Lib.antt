@@ -1,4 +1,5 @@
 pub mod Mapping
 pub mod Strides
 pub mod Runs
+pub mod Lines
 pub mod Pairs

@@ -1,15 +1,15 @@
--- How the code goes with at most two PhCHs in runs: along lines of evenly spaced bits and places.
+-- How the code goes with at most two PhCHs in runs: which lines there are.
 use mathlib.Core.Path.{_≡_}
 use mathlib.Core.Bool.{cond}
 use mathlib.Core.List.{List, [], _∷_}
 use mathlib.Core.Logic.{_⊎_}
-use Prim.Native.Nat.{ℕ, zero, suc, min, _+_, _-_, _*_, _%_, _≤_, _<_}
-use lib.ListN.{getD, set}
+use Prim.Native.Nat.{ℕ, suc, min, _+_, _-_, _*_, _%_, _≤_, _<_}
 use lib.Dec.{ltb}
-use Rattle.mapping.specs.Mapping.{posOf, placeOf, inRuns, at}
+use Rattle.mapping.specs.Mapping.{placeOf, inRuns, at}
 use Rattle.mapping.specs.Runs.{Short}
+use Rattle.mapping.specs.Lines.{bitOn, spotOn, Within}
 use Rattle.mapping.specs.declared.pairs.Pair.{Pair}
-use Rattle.mapping.specs.declared.pairs.Line.{Line}
+use Rattle.mapping.specs.declared.lines.Line.{Line}
 
 -- r rounds give each of two PhCHs a whole run, and no more do
 pub record Rounds (u b v c r : ℕ) : Type 0 where
@@ -62,30 +62,6 @@ lineOf t k =
 -- how many lines there are
 abbrev pub lines : Pair → ℕ
 lines t = t .b + t .c + 3
-
--- element i of a line, as a bit of the slot and as one of its PhCH
-abbrev pub bitOn : Line → ℕ → ℕ
-bitOn l i = l .bit + i * l .step
-
-abbrev pub rankOn : Line → ℕ → ℕ
-rankOn l i = l .rank + i * l .apart
-
--- its place
-abbrev pub spotOn : Line → ℕ → ℕ
-spotOn l i = l .base + (posOf (l .room) (l .p + 1) (rankOn l i) - 1)
-
--- the elements from 0, .. from (n - 1) of src put to 0, .. to (n - 1) in turn, over w
-unfoldable pub copied : {A : Type 0} → A → (ℕ → ℕ) → (ℕ → ℕ) → List A → ℕ → List A → List A
-copied d from to src zero w = w
-copied d from to src (suc i) w = set (copied d from to src i w) (to i) (getD src (from i) d)
-
--- a line lies within so many bits and places
-pub record Within (bits places : ℕ) (l : Line) : Type 0 where
-  pub given : (i : ℕ) → i < l .count → bitOn l i < bits
-  pub inside : (i : ℕ) → i < l .count → rankOn l i < l .room
-  pub room : l .base + l .room ≤ places
-  pub few : (bits < 4294967296) × (places < 4294967296)
-  pub near : (l .step ≤ 32) × (l .apart ≤ 16)
 
 -- l is line j: where its bits go, and that it has them all
 pub record Traced (t : Pair) (j : ℕ) (l : Line) : Type 0 where

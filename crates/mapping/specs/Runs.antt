@@ -26,6 +26,7 @@ pub record Paired (caps : List ℕ) (b c n m : ℕ) : Type 0 where
 pub record Coded (caps : List ℕ) (b c n m : ℕ) : Type 0 where
   pub slot : Slot caps n m
   pub few : (length caps ≤ 2) ⊎ ((b ≡ 1) × (c ≡ 1))
+  pub small : length caps ≤ 16
   pub runs : Short b c
 
 -- how many bits PhCH q has, other than PhCH p, when PhCH p takes a bit of its turn t

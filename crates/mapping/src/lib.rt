@@ -7,9 +7,22 @@ ghost use lib.ListN.{length};
 ghost use lib.Ieee.{nan};
 ghost use Rattle.mapping.specs.Mapping.{posOf, numberOf, filledAs, ones, firstRun, secondRun, inRuns, at, slotSize, slotOf, slotUndone, Slot};
 ghost use Rattle.mapping.specs.Runs.{hadIn, Short, Coded};
-ghost use Rattle.mapping.specs.Strides.{turns, walk, Reached, Least, Marked, Leg, Along, Onward};
+ghost use Rattle.mapping.specs.Strides.{turns, walk, Reached, Least, Marked, Leg, Onward};
+ghost use Rattle.mapping.specs.Lines.{lineAlong, Threaded, partFrom};
+ghost use Rattle.interleaving.specs.Second.{secondInterleaved};
+ghost use Rattle.sheet.specs.Counts.{mostBits};
+ghost use borrow.Rule.Slice.PartMut.{putMid};
 
+mod lines;
 mod pairs;
+mod short;
+
+use interleaving::second::begin_turns;
+use lines::Line;
+use lines::put_line;
+use lines::take_line;
+use short::FEW;
+use short::SHORT;
 
 // How many bits PhCH 1 takes at its turn, and how many the others do.
 pub struct Runs {
@@ -177,7 +190,7 @@ fn stretch_from(caps: &[u16], m: Mark) -> Stretch
     } else if u <= x + 1 {
         Stretch {
             room: u,
-            stride: 0,
+            stride: 1,
             end: u,
         }
     } else {
@@ -212,86 +225,100 @@ fn onward(caps: &[u16], m: Mark, r: Stretch, k: usize) -> Mark
     }
 }
 
-// Fills a stretch, and answers the number of the bit after it.
-fn fill(bits: &[u8], caps: &[u16], m: Mark, r: Stretch, frame: &mut [u8]) -> usize
-    requires { ⌜ Along (now caps) 0 (now bits) m r (m .x) (m .k) (now frame) ⌝ }
-    ensures { λ k. ⌜ Along (now (caps .entry)) 0 (now (bits .entry)) m r (r .end) k (now (frame .exit)) ⌝ }
+// A stretch as a line.
+fn line_along(m: Mark, r: Stretch) -> Line
+    requires { ⌜ m .x ≤ r .end ⌝ }
+    ensures { λ l. ⌜ l ≡ lineAlong m r ⌝ }
 {
-    let mut x = m.x;
-    let mut k = m.k;
-    while x < r.end {
-        let to = spot(m.base, m.p, r.room, x);
-        frame[to] = bits[k];
-        k += r.stride;
-        x += 1;
+    Line {
+        bit: m.k,
+        step: r.stride,
+        base: m.base,
+        p: m.p,
+        room: r.room,
+        rank: m.x,
+        apart: 1,
+        count: r.end - m.x,
     }
-    k
-}
-
-// Empties a stretch: the same, with the bits written.
-fn empty(frame: &[f32], caps: &[u16], m: Mark, r: Stretch, bits: &mut [f32]) -> usize
-    requires { ⌜ Along (now caps) nan (now bits) m r (m .x) (m .k) (now frame) ⌝ }
-    ensures { λ k. ⌜ Along (now (caps .entry)) nan (now (bits .exit)) m r (r .end) k (now (frame .entry)) ⌝ }
-{
-    let mut x = m.x;
-    let mut k = m.k;
-    while x < r.end {
-        let from = spot(m.base, m.p, r.room, x);
-        bits[k] = frame[from];
-        k += r.stride;
-        x += 1;
-    }
-    k
 }
 
 // Maps the bits of a slot, one at a time to each PhCH that has room.
-fn map_ones(bits: &[u8], caps: &[u16], frame: &mut [u8])
-    requires { ⌜ Slot (now caps) (length (now bits)) (length (now frame)) ⌝ }
-    ensures { λ _. ⌜ now (frame .exit) ≡ slotOf ones (now (caps .entry)) (now (bits .entry)) (now (frame .entry)) ⌝ }
+fn map_ones(
+    bits: &[u8],
+    begins: &[usize; 31],
+    columns: &[u8; 30],
+    at: usize,
+    caps: &[u16],
+    frame: &mut [u8],
+)
+    requires { ⌜ Slot (now caps) (length (now frame)) (length (now frame)) × (length (now caps) ≤ 16) × Threaded (length (now bits)) at (length (now frame)) (now begins) (now columns) ⌝ }
+    ensures { λ _. ⌜ now (frame .exit) ≡ slotOf ones (now (caps .entry)) (partFrom at (length (now (frame .entry))) (secondInterleaved (now (bits .entry)))) (now (frame .entry)) ⌝ }
 {
     let mut m = start(caps);
     while m.p < caps.len() {
         let r = stretch_from(caps, m);
-        let k = fill(bits, caps, m, r, frame);
-        m = onward(caps, m, r, k);
+        let l = line_along(m, r);
+        put_line(bits, begins, columns, at, l, frame);
+        m = onward(caps, m, r, m.k + l.count * r.stride);
     }
 }
 
-// Takes the soft values of such a slot back into the order of its bits.
-fn unmap_ones(frame: &[f32], caps: &[u16], bits: &mut [f32])
-    requires { ⌜ Slot (now caps) (length (now bits)) (length (now frame)) ⌝ }
-    ensures { λ _. ⌜ now (bits .exit) ≡ slotUndone ones (now (caps .entry)) nan (now (frame .entry)) ⌝ }
+// Takes the soft values of such a slot back to where its bits came from.
+fn unmap_ones(
+    frame: &[f32],
+    begins: &[usize; 31],
+    columns: &[u8; 30],
+    at: usize,
+    caps: &[u16],
+    values: &mut [f32],
+)
+    requires { ⌜ Slot (now caps) (length (now frame)) (length (now frame)) × (length (now caps) ≤ 16) × Threaded (length (now values)) at (length (now frame)) (now begins) (now columns) ⌝ }
+    ensures { λ _. ⌜ secondInterleaved (now (values .exit)) ≡ putMid at (length (now (frame .entry))) (secondInterleaved (now (values .entry))) (slotUndone ones (now (caps .entry)) nan (now (frame .entry))) ⌝ }
 {
     let mut m = start(caps);
     while m.p < caps.len() {
         let r = stretch_from(caps, m);
-        let k = empty(frame, caps, m, r, bits);
-        m = onward(caps, m, r, k);
+        let l = line_along(m, r);
+        take_line(frame, begins, columns, at, l, values);
+        m = onward(caps, m, r, m.k + l.count * r.stride);
     }
 }
 
-// Maps the bits of a slot in runs. The frame is the slot's part of it.
-pub fn map_slot(bits: &[u8], caps: &[u16], runs: Runs, frame: &mut [u8])
-    requires { ⌜ Coded (now caps) (runs .first) (runs .other) (length (now bits)) (length (now frame)) ⌝ }
-    ensures { λ _. ⌜ now (frame .exit) ≡ slotOf (inRuns (runs .first) (runs .other)) (now (caps .entry)) (now (bits .entry)) (now (frame .entry)) ⌝ }
+// Maps the bits of a slot in runs. The frame is the slot's part of it; the bits are not interleaved yet, and the slot's are those that step 8 puts
+// to the indices from `at` on.
+pub fn map_slot(bits: &[u8], at: usize, caps: &[u16], runs: Runs, frame: &mut [u8])
+    requires { ⌜ Coded (now caps) (runs .first) (runs .other) (length (now frame)) (length (now frame)) × (at + length (now frame) ≤ length (now bits)) × (length (now bits) ≤ mostBits) ⌝ }
+    ensures { λ _. ⌜ now (frame .exit) ≡ slotOf (inRuns (runs .first) (runs .other)) (now (caps .entry)) (partFrom at (length (now (frame .entry))) (secondInterleaved (now (bits .entry)))) (now (frame .entry)) ⌝ }
 {
-    if runs.first + runs.other == 2 {
-        map_ones(bits, caps, frame);
+    let begins = begin_turns(bits.len());
+    let order = orders::columns();
+    if runs.first + runs.other != 2 {
+        pairs::map_pair(bits, &begins, &order, at, caps, runs, frame);
         return;
     }
-    pairs::map_pair(bits, caps, runs, frame);
+    if frame.len() <= SHORT && bits.len() < FEW * caps.len() {
+        short::map_short(bits, &begins, &order, at, caps, frame);
+        return;
+    }
+    map_ones(bits, &begins, &order, at, caps, frame);
 }
 
-// Takes the soft values of a slot back into the order of its bits.
-pub fn unmap_slot(frame: &[f32], caps: &[u16], runs: Runs, bits: &mut [f32])
-    requires { ⌜ Coded (now caps) (runs .first) (runs .other) (length (now bits)) (length (now frame)) ⌝ }
-    ensures { λ _. ⌜ now (bits .exit) ≡ slotUndone (inRuns (runs .first) (runs .other)) (now (caps .entry)) nan (now (frame .entry)) ⌝ }
+// Takes the soft values of a slot back to where its bits came from; the other values stay as they are.
+pub fn unmap_slot(frame: &[f32], caps: &[u16], runs: Runs, at: usize, values: &mut [f32])
+    requires { ⌜ Coded (now caps) (runs .first) (runs .other) (length (now frame)) (length (now frame)) × (at + length (now frame) ≤ length (now values)) × (length (now values) ≤ mostBits) ⌝ }
+    ensures { λ _. ⌜ secondInterleaved (now (values .exit)) ≡ putMid at (length (now (frame .entry))) (secondInterleaved (now (values .entry))) (slotUndone (inRuns (runs .first) (runs .other)) (now (caps .entry)) nan (now (frame .entry))) ⌝ }
 {
-    if runs.first + runs.other == 2 {
-        unmap_ones(frame, caps, bits);
+    let begins = begin_turns(values.len());
+    let order = orders::columns();
+    if runs.first + runs.other != 2 {
+        pairs::unmap_pair(frame, &begins, &order, at, caps, runs, values);
         return;
     }
-    pairs::unmap_pair(frame, caps, runs, bits);
+    if frame.len() <= SHORT && values.len() < FEW * caps.len() {
+        short::unmap_short(frame, &begins, &order, at, caps, values);
+        return;
+    }
+    unmap_ones(frame, &begins, &order, at, caps, values);
 }
 
 // Which of a PhCH's u bits, counted from 0, stands at its place, counted from 1: the undoing of `spot`.

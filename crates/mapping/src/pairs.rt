@@ -7,11 +7,16 @@ ghost use lib.ListN.{length};
 ghost use lib.Ieee.{nan};
 ghost use Rattle.mapping.specs.Mapping.{inRuns, at, slotOf, slotUndone};
 ghost use Rattle.mapping.specs.Runs.{Short, Paired};
-ghost use Rattle.mapping.specs.Pairs.{lines, bitOn, spotOn, copied, Rounds, Fit, PairOf, Within, Traced};
+ghost use Rattle.mapping.specs.Pairs.{lines, Rounds, Fit, PairOf, Traced};
+ghost use Rattle.mapping.specs.Lines.{Threaded, partFrom};
+ghost use Rattle.interleaving.specs.Second.{secondInterleaved};
+ghost use borrow.Rule.Slice.PartMut.{putMid};
 use crate::Runs;
 use crate::capacity;
 use crate::lesser;
-use crate::spot;
+use crate::lines::Line;
+use crate::lines::put_line;
+use crate::lines::take_line;
 use crate::whole_runs;
 
 // PhCH 1 takes u bits in runs of b, and PhCH 2 takes v in runs of c. As many `rounds` give each a whole run; in the round after them PhCH 1 takes
@@ -23,19 +28,6 @@ struct Pair {
     v: usize,
     rounds: usize,
     rest: usize,
-}
-
-// The bits `bit`, `bit` + `step`, .. of the slot, `count` of them, which are the bits `rank`, `rank` + `apart`, .. of PhCH p. Its places, as many as
-// `room`, start at base.
-struct Line {
-    bit: usize,
-    step: usize,
-    base: usize,
-    p: usize,
-    room: usize,
-    rank: usize,
-    apart: usize,
-    count: usize,
 }
 
 // What PhCH p takes, and 0 where there is none.
@@ -160,66 +152,48 @@ fn line_of(t: Pair, j: usize) -> Line
     }
 }
 
-// Puts the bits of a line to their places.
-fn put_line(bits: &[u8], l: Line, frame: &mut [u8])
-    requires { ⌜ Within (length (now bits)) (length (now frame)) l ⌝ }
-    ensures { λ _. ⌜ now (frame .exit) ≡ copied 0 (bitOn l) (spotOn l) (now (bits .entry)) (l .count) (now (frame .entry)) ⌝ }
-{
-    let mut i: usize = 0;
-    let mut from = l.bit;
-    let mut y = l.rank;
-    while i < l.count {
-        let to = spot(l.base, l.p, l.room, y);
-        frame[to] = bits[from];
-        from += l.step;
-        y += l.apart;
-        i += 1;
-    }
-}
-
-// Takes them back.
-fn take_line(frame: &[f32], l: Line, bits: &mut [f32])
-    requires { ⌜ Within (length (now bits)) (length (now frame)) l ⌝ }
-    ensures { λ _. ⌜ now (bits .exit) ≡ copied nan (spotOn l) (bitOn l) (now (frame .entry)) (l .count) (now (bits .entry)) ⌝ }
-{
-    let mut i: usize = 0;
-    let mut to = l.bit;
-    let mut y = l.rank;
-    while i < l.count {
-        let from = spot(l.base, l.p, l.room, y);
-        bits[to] = frame[from];
-        to += l.step;
-        y += l.apart;
-        i += 1;
-    }
-}
-
 // Maps the bits of such a slot.
-pub fn map_pair(bits: &[u8], caps: &[u16], runs: Runs, frame: &mut [u8])
-    requires { ⌜ Paired (now caps) (runs .first) (runs .other) (length (now bits)) (length (now frame)) ⌝ }
-    ensures { λ _. ⌜ now (frame .exit) ≡ slotOf (inRuns (runs .first) (runs .other)) (now (caps .entry)) (now (bits .entry)) (now (frame .entry)) ⌝ }
+pub fn map_pair(
+    bits: &[u8],
+    begins: &[usize; 31],
+    columns: &[u8; 30],
+    at: usize,
+    caps: &[u16],
+    runs: Runs,
+    frame: &mut [u8],
+)
+    requires { ⌜ Paired (now caps) (runs .first) (runs .other) (length (now frame)) (length (now frame)) × Threaded (length (now bits)) at (length (now frame)) (now begins) (now columns) ⌝ }
+    ensures { λ _. ⌜ now (frame .exit) ≡ slotOf (inRuns (runs .first) (runs .other)) (now (caps .entry)) (partFrom at (length (now (frame .entry))) (secondInterleaved (now (bits .entry)))) (now (frame .entry)) ⌝ }
 {
     let t = pair_of(caps, runs);
     let n = runs.first + runs.other + 3;
     let mut j: usize = 0;
     while j < n {
         let l = line_of(t, j);
-        put_line(bits, l, frame);
+        put_line(bits, begins, columns, at, l, frame);
         j += 1;
     }
 }
 
-// Takes the soft values of such a slot back into the order of its bits.
-pub fn unmap_pair(frame: &[f32], caps: &[u16], runs: Runs, bits: &mut [f32])
-    requires { ⌜ Paired (now caps) (runs .first) (runs .other) (length (now bits)) (length (now frame)) ⌝ }
-    ensures { λ _. ⌜ now (bits .exit) ≡ slotUndone (inRuns (runs .first) (runs .other)) (now (caps .entry)) nan (now (frame .entry)) ⌝ }
+// Takes the soft values of such a slot back to where its bits came from.
+pub fn unmap_pair(
+    frame: &[f32],
+    begins: &[usize; 31],
+    columns: &[u8; 30],
+    at: usize,
+    caps: &[u16],
+    runs: Runs,
+    values: &mut [f32],
+)
+    requires { ⌜ Paired (now caps) (runs .first) (runs .other) (length (now frame)) (length (now frame)) × Threaded (length (now values)) at (length (now frame)) (now begins) (now columns) ⌝ }
+    ensures { λ _. ⌜ secondInterleaved (now (values .exit)) ≡ putMid at (length (now (frame .entry))) (secondInterleaved (now (values .entry))) (slotUndone (inRuns (runs .first) (runs .other)) (now (caps .entry)) nan (now (frame .entry))) ⌝ }
 {
     let t = pair_of(caps, runs);
     let n = runs.first + runs.other + 3;
     let mut j: usize = 0;
     while j < n {
         let l = line_of(t, j);
-        take_line(frame, l, bits);
+        take_line(frame, begins, columns, at, l, values);
         j += 1;
     }
 }

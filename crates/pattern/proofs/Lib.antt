@@ -7,6 +7,7 @@ pub mod SourceLaws
 pub mod TextLaws
 pub mod SharedLaws
 pub mod SegmentLaws
+pub mod EveryLaws
 pub mod LeftLaws
 pub mod Example
 pub mod StoodLaws

@@ -1,3 +1,4 @@
 pub mod Text
 pub mod Pattern
+pub mod Every
 pub mod Closed

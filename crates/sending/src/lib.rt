@@ -11,8 +11,6 @@ use looking::look;
 use looking::open_frame;
 use opening::capacity;
 use opening::open_sheet;
-use sheet::counts::MOST_BITS;
-use sheet::counts::MOST_ENCODED;
 use sheet::sizes::all_encoded;
 
 // The contents are asked and sent: to the whole frame, or multiplexed.
@@ -38,8 +36,7 @@ fn send(bytes: &[u8], frame: FrameNumber, contents: &[u8], out: &mut [u8], whole
             at: places,
         };
     }
-    let mut room = [0u8; MOST_ENCODED as usize];
-    multiplex_bits(contents, opened, frame, &mut room, out);
+    multiplex_bits(contents, opened, frame, out);
     Answer {
         number: 0,
         at: places,
@@ -76,9 +73,7 @@ pub fn spread(bytes: &[u8], bits: &[u8], out: &mut [u8]) -> Answer
     if looked.number != 0 {
         return looked;
     }
-    let mut room = [0u8; MOST_BITS as usize];
-    let n = out.len();
-    spread_bits(bits, fields, &mut room[..n], out);
+    spread_bits(bits, fields, out);
     Answer {
         number: 0,
         at: places,

@@ -5,6 +5,7 @@ use native.Mathlib.Omega.{arith}
 use lib.ListN.{length}
 use Rattle.matching.specs.Signed.{signedBy}
 use Rattle.pattern.specs.Pattern.{matched, asIs, Segment}
+use Rattle.pattern.specs.Every.{every}
 use Rattle.pattern.proofs.SegmentLaws.{sized-same, matched-none}
 use borrow.Author.Needs.{needs}
 use Rattle.pattern.proofs.match_rate.Statement.{statement}
@@ -14,19 +15,19 @@ copy-requires : tie.Need-copy-requires
 copy-requires c κs =
     let u = c .before .before .before .before in
     let a = u .args in
-    sized-same (a .less) (a .m) (length (now (a .src))) (length (now (a .dst))) (a .e) (u .pre) (c .before .if1 .taken)
+    (u .pre .1, sized-same (a .less) (a .m) (a .n) (length (now (a .dst))) (a .e) (u .pre .0) (c .before .if1 .taken))
 
 puncture-requires : tie.Need-puncture-requires
 puncture-requires c κs =
     let u = c .before .before .before .before .before in
     let a = u .args in
-    (subst (λ (b : Bool). Segment b (a .m) (length (now (a .src))) (length (now (a .dst))) (a .e)) (c .before .if2 .taken) (u .pre), omega arith)
+    (subst (λ (b : Bool). Segment b (a .m) (a .n) (length (now (a .dst))) (a .e)) (c .before .if2 .taken) (u .pre .0), u .pre .1, omega arith)
 
 repeat-requires : tie.Need-repeat-requires
 repeat-requires c κs =
     let u = c .before .before .before .before .before in
     let a = u .args in
-    (subst (λ (b : Bool). Segment b (a .m) (length (now (a .src))) (length (now (a .dst))) (a .e)) (c .before .if2 .left) (u .pre), omega arith)
+    (subst (λ (b : Bool). Segment b (a .m) (a .n) (length (now (a .dst))) (a .e)) (c .before .if2 .left) (u .pre .0), u .pre .1, omega arith)
 
 same-length : tie.Need-same-length
 same-length c = search needs
@@ -36,7 +37,7 @@ returns c =
     let v = c .before .before .before .before in
     let a = v .before .before .before .args in
     c .before .before .copy .ensures
-    ∙ sym (matched-none (a .less) (a .m) (length (now (a .src))) (a .e) (now (a .src)) (v .if1 .taken))
+    ∙ sym (matched-none (a .less) (a .m) (a .n) (a .e) (every 0 (a .from) (a .step) (a .n) (now (a .src))) (v .if1 .taken))
 
 same-length-2 : tie.Need-same-length-2
 same-length-2 c = search needs
@@ -46,7 +47,7 @@ returns-2 c =
     let v = c .before .before .before .before in
     let a = v .before .before .before .before .args in
     c .before .before .puncture .ensures
-    ∙ ap (λ (b : Bool). matched asIs (signedBy b (a .m)) (length (now (a .src))) (a .e) (now (a .src))) (sym (v .if2 .taken))
+    ∙ ap (λ (b : Bool). matched asIs (signedBy b (a .m)) (a .n) (a .e) (every 0 (a .from) (a .step) (a .n) (now (a .src)))) (sym (v .if2 .taken))
 
 same-length-3 : tie.Need-same-length-3
 same-length-3 c = search needs
@@ -56,7 +57,7 @@ returns-3 c =
     let v = c .before .before .before .before in
     let a = v .before .before .before .before .args in
     c .before .before .repeat .ensures
-    ∙ ap (λ (b : Bool). matched asIs (signedBy b (a .m)) (length (now (a .src))) (a .e) (now (a .src))) (sym (v .if2 .left))
+    ∙ ap (λ (b : Bool). matched asIs (signedBy b (a .m)) (a .n) (a .e) (every 0 (a .from) (a .step) (a .n) (now (a .src)))) (sym (v .if2 .left))
 
 pub match-rate-spec : {M : Type 1} → statement M
 match-rate-spec =

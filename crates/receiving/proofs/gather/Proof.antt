@@ -1,10 +1,7 @@
-use mathlib.Core.Path.{sym, _∙_}
-use lib.Ieee.{nan, ofBits, binary32}
-use Rattle.frame.proofs.RoomLaws.{room-part}
+use lib.Ieee.{nan}
 use Rattle.joining.specs.Range.{inRange}
 use Rattle.homing.specs.Gather.{gathered}
 use lib.ListN.{length}
-use Rattle.sheet.specs.Counts.{mostBits}
 use Rattle.opening.specs.declared.OpenAnswer.{OpenAnswer}
 use Rattle.opening.proofs.OpenLaws.{opens}
 use Rattle.looking.proofs.LookLaws.{Fits, moves-early, moves-looked, moves-written, moves-fit}
@@ -50,28 +47,20 @@ fits c =
     moves-fit inRange (a .frame .now) (a .out .now) (λ sh. gathered nan sh (a .frame .now)) (a .bytes .now) (o .open-sheet .result) (o .open-sheet .ensures)
     (l .before .before .before .before .if1 .left) (l .before .capacity .ensures .0) (l .look-soft .result) (l .look-soft .ensures) (c .if2 .left)
 
-array-borrow-prefix-room : tie.Need-array-borrow-prefix-room
-array-borrow-prefix-room c = fits c .few
-
-slice-aggregate-gather-values : tie.Need-slice-aggregate-gather-values
-slice-aggregate-gather-values c = sym (room-part mostBits _ (ofBits binary32 1065353216) (fits (c .before) .few))
-
 gather-values-requires : tie.Need-gather-values-requires
-gather-values-requires c κs =
-    let f = fits (c .before .before) in
-    (f .accepted, f .values, room-part mostBits _ (ofBits binary32 1065353216) (f .few) ∙ f .places, f .places)
+gather-values-requires c κs = let f = fits (c .before) in (f .accepted, f .values, f .places)
 
 same-length : tie.Need-same-length
 same-length c = search needs
 
 returns-3 : tie.Need-returns-3
 returns-3 c =
-    let l = c .before .before .before .before .before .before .before .before in
+    let l = c .before .before .before .before .before .before in
     let o = l .before .before .before .before .before in
     let a = o .before .before .before .before .args in
     moves-written inRange (a .frame .now) (a .out .now) (λ sh. gathered nan sh (a .frame .now)) (a .bytes .now) (o .open-sheet .result) (o .open-sheet .ensures)
     (l .before .before .before .before .if1 .left) (l .before .capacity .ensures .0) (l .look-soft .result) (l .look-soft .ensures)
-    (c .before .before .before .before .before .before .if2 .left) (c .before .before .before .gather-values .ensures)
+    (c .before .before .before .before .if2 .left) (c .before .before .gather-values .ensures)
 
 pub gather-spec : {M : Type 1} → statement M
 gather-spec =
@@ -82,8 +71,6 @@ gather-spec =
     capacity-requires
     look-soft-requires
     returns-2
-    array-borrow-prefix-room
-    slice-aggregate-gather-values
     gather-values-requires
     same-length
     returns-3)

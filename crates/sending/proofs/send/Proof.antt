@@ -11,7 +11,6 @@ use Rattle.opening.specs.Opened.{Opens}
 use Rattle.opening.specs.declared.OpenAnswer.{OpenAnswer}
 use Rattle.frame.specs.Bit.{isBit}
 use Rattle.frame.specs.Frame.{multiplexedBits, bitFrame}
-use Rattle.frame.proofs.RoomLaws.{segments-of}
 use Rattle.looking.specs.Looking.{lastFrame, frameLines}
 use Rattle.looking.proofs.LookLaws.{begun-opens, look-long, early-frame, leaves-early, leaves-looked, leaves-written}
 use Rattle.sending.specs.Building.{buildInto, multiplexInto}
@@ -106,29 +105,25 @@ returns-3 c =
     (l .before .before .before .before .before .if1 .left) (l .before .all-encoded .ensures) (l .before .before .capacity .ensures .0) (l .look .result) (l .look .ensures)
     (e .if2 .left) (l .before .before .capacity .ensures .0) (c .before .before .build-bits .ensures))
 
-slice-aggregate-multiplex-bits : tie.Need-slice-aggregate-multiplex-bits
-slice-aggregate-multiplex-bits c = search needs
-
 multiplex-bits-requires : tie.Need-multiplex-bits-requires
 multiplex-bits-requires c κs =
-    let e = c .before .before .before in
-    let k = opens (e .before .before .before .before .before .before) in
-    (k, long e .0, segments-of (fields e) (k .accepted), long e .1)
+    let e = c .before .before in
+    (opens (e .before .before .before .before .before .before), long e .0, long e .1)
 
 same-length-2 : tie.Need-same-length-2
 same-length-2 c = search needs
 
 returns-4 : tie.Need-returns-4
 returns-4 c =
-    let e = c .before .before .before .before .before .before .before in
+    let e = c .before .before .before .before .before in
     let l = e .before .before in
     let o = l .before .before .before .before .before .before in
     let a = o .before .before .before .before .args in
-    of-second (buildInto (a .bytes .now) (a .frame .0) (a .contents .now) (a .out .now)) (multiplexInto (a .bytes .now) (a .frame .0) (a .contents .now) (a .out .now)) (c .before .before .before .before .before .before .if3 .left)
+    of-second (buildInto (a .bytes .now) (a .frame .0) (a .contents .now) (a .out .now)) (multiplexInto (a .bytes .now) (a .frame .0) (a .contents .now) (a .out .now)) (c .before .before .before .before .if3 .left)
     (leaves-written isBit (a .contents .now) (a .out .now) encodedAll capacityAll capacityAll (λ sh. multiplexedBits sh (a .frame .0) (a .contents .now)) (a .bytes .now)
     (frameLines (a .bytes .now) (a .frame .0)) (early-frame (a .bytes .now) (a .frame .0)) (o .open-frame .result) (o .open-frame .ensures)
     (l .before .before .before .before .before .if1 .left) (l .before .all-encoded .ensures) (l .before .before .capacity .ensures .0) (l .look .result) (l .look .ensures)
-    (e .if2 .left) (l .before .before .capacity .ensures .0) (c .before .before .before .multiplex-bits .ensures))
+    (e .if2 .left) (l .before .before .capacity .ensures .0) (c .before .before .multiplex-bits .ensures))
 
 pub send-spec : {M : Type 1} → statement M
 send-spec =
@@ -143,7 +138,6 @@ send-spec =
     build-bits-requires
     same-length
     returns-3
-    slice-aggregate-multiplex-bits
     multiplex-bits-requires
     same-length-2
     returns-4)

@@ -1,10 +1,6 @@
-use mathlib.Core.Path.{sym, _∙_}
-use Prim.Native.Nat.{ℕ}
-use Rattle.frame.proofs.RoomLaws.{room-part}
 use Rattle.frame.specs.Bit.{isBit}
 use Rattle.frame.specs.Frame.{spread}
 use lib.ListN.{length}
-use Rattle.sheet.specs.Counts.{mostBits}
 use Rattle.opening.specs.declared.OpenAnswer.{OpenAnswer}
 use Rattle.opening.proofs.OpenLaws.{opens}
 use Rattle.looking.proofs.LookLaws.{Fits, moves-early, moves-looked, moves-written, moves-fit}
@@ -50,28 +46,20 @@ fits c =
     moves-fit isBit (a .bits .now) (a .out .now) (λ sh. spread sh (a .bits .now)) (a .bytes .now) (o .open-sheet .result) (o .open-sheet .ensures)
     (l .before .before .before .before .if1 .left) (l .before .capacity .ensures .0) (l .look .result) (l .look .ensures) (c .if2 .left)
 
-array-borrow-prefix-room : tie.Need-array-borrow-prefix-room
-array-borrow-prefix-room c = fits c .few
-
-slice-aggregate-spread-bits : tie.Need-slice-aggregate-spread-bits
-slice-aggregate-spread-bits c = sym (room-part {A = ℕ} mostBits _ 0 (fits (c .before) .few))
-
 spread-bits-requires : tie.Need-spread-bits-requires
-spread-bits-requires c κs =
-    let f = fits (c .before .before) in
-    (f .accepted, f .values, room-part {A = ℕ} mostBits _ 0 (f .few) ∙ f .places, f .places)
+spread-bits-requires c κs = let f = fits (c .before) in (f .accepted, f .values, f .places)
 
 same-length : tie.Need-same-length
 same-length c = search needs
 
 returns-3 : tie.Need-returns-3
 returns-3 c =
-    let l = c .before .before .before .before .before .before .before .before in
+    let l = c .before .before .before .before .before .before in
     let o = l .before .before .before .before .before in
     let a = o .before .before .before .before .args in
     moves-written isBit (a .bits .now) (a .out .now) (λ sh. spread sh (a .bits .now)) (a .bytes .now) (o .open-sheet .result) (o .open-sheet .ensures)
     (l .before .before .before .before .if1 .left) (l .before .capacity .ensures .0) (l .look .result) (l .look .ensures)
-    (c .before .before .before .before .before .before .if2 .left) (c .before .before .before .spread-bits .ensures)
+    (c .before .before .before .before .if2 .left) (c .before .before .spread-bits .ensures)
 
 pub spread-spec : {M : Type 1} → statement M
 spread-spec =
@@ -82,8 +70,6 @@ spread-spec =
     capacity-requires
     look-requires
     returns-2
-    array-borrow-prefix-room
-    slice-aggregate-spread-bits
     spread-bits-requires
     same-length
     returns-3)

@@ -4,7 +4,6 @@ use mathlib.Core.Path.{_≡_, refl, sym, ap, _∙_}
 use mathlib.Core.List.{List}
 use Prim.Native.Nat.{ℕ, _+_, _-_, _≤_, _<_}
 use lib.ListN.{length, getD}
-use lib.Seq.{length-take-le}
 use Rattle.laws.specs.Sums.{sumTo}
 use Rattle.laws.specs.Laid.{Laid}
 use Rattle.laws.specs.Joined.{joined}
@@ -15,34 +14,34 @@ use Rattle.sheet.specs.Sizes.{sizeOf, encodedAll}
 use Rattle.matching.specs.Shares.{cutOf}
 use Rattle.opening.specs.Opened.{Opens}
 use Rattle.opening.specs.declared.Opened.{Opened}
-use Rattle.opening.proofs.OpenLaws.{size-is, high-is, cut-rises}
+use Rattle.opening.proofs.OpenLaws.{high-is, cut-rises}
 use Rattle.interleaving.specs.First.{equalised}
 use Rattle.pattern.specs.Pattern.{asIs}
 use Rattle.frame.specs.Frame.{sentOf, bitsOf, multiplexed, multiplexedBits}
-use Rattle.laws.proofs.PartLaws.{part-length, prefix-long}
+use Rattle.laws.proofs.PartLaws.{part-length}
 use Rattle.frame.proofs.FrameLaws.{cuts-end}
 use Rattle.frame.proofs.SendLaws.{content-within, content-part, cut-share, cut-within, sent-more, sent-none}
 use Rattle.frame.proofs.multiplexing.multiplex_bits.Statement.{statement}
 use Rattle.frame.proofs.multiplexing.multiplex_bits.Tie as tie
 
 abbrev Inv-loop : tie.InvT-loop
-Inv-loop contents opened frame room₀ out₀ es sizes cuts n i₀ from₀ room out i from =
-    (i ≤ n) × (from ≡ sumTo (encodedOf (opened .fields)) i) × (length room ≡ length room₀) × (length out ≡ length out₀)
+Inv-loop contents opened frame out₀ es cuts n i₀ from₀ out i from =
+    (i ≤ n) × (from ≡ sumTo (encodedOf (opened .fields)) i) × (length out ≡ length out₀)
     × Laid out₀ out (cutOf (opened .fields) i) (joined (λ k. sentOf asIs (opened .fields) (frame .0) k (bitsOf (opened .fields) contents k)) i)
 
 abbrev μ-loop : tie.MeasureT-loop
-μ-loop contents opened frame room₀ out₀ es sizes cuts n i₀ from₀ room out i from = n - i
+μ-loop contents opened frame out₀ es cuts n i₀ from₀ out i from = n - i
 
--- the channel's part of the contents, of the frame, and its segment
+-- the channel's part of the contents, and of the frame
 module _ (c : tie.After-count2 Inv-loop μ-loop) where
   abbrev o : Opened
-  o = c .before .before .before .before .before .before .before .before .before .before .before .args .opened
+  o = c .before .before .before .before .before .before .before .before .before .args .opened
 
   abbrev i : ℕ
   i = c .before .before .loop .i
 
   opens : Opens o
-  opens = c .before .before .before .before .before .before .before .before .before .before .before .pre .0
+  opens = c .before .before .before .before .before .before .before .before .before .pre .0
 
   inside : i < o .fields .channels
   inside = omega arith
@@ -56,19 +55,14 @@ module _ (c : tie.After-count2 Inv-loop μ-loop) where
   last : getD (o .cuts) (i + 1) 0 ≤ length (c .before .before .loop .out)
   last = omega (arith, cut-within o opens i inside)
 
-  fits : getD (o .sizes) i 0 ≤ length (c .before .before .loop .room)
-  fits =
-      let s = c .before .before .before .before .before .before .before .before .before .before .before in
-      omega (arith, size-is o opens i inside, s .pre .2 i inside, c .before .before .loop .inv .2)
-
 count-requires : tie.Need-count-requires Inv-loop μ-loop
 count-requires c κs = search needs
 
 loop-holds : tie.Need-loop-holds Inv-loop μ-loop
 unfolding sumTo joined
 loop-holds c =
-    let s = c .before .before .before .before .before .before .before .before in
-    (omega arith, refl, refl, refl, sent-none (s .args .opened .fields) (s .pre .0 .accepted) _)
+    let s = c .before .before .before .before .before .before in
+    (omega arith, refl, refl, sent-none (s .args .opened .fields) (s .pre .0 .accepted) _)
 
 mul-count : tie.Need-mul-count Inv-loop μ-loop
 mul-count c = omega arith
@@ -103,15 +97,6 @@ array-read-z c = omega arith
 cast-z : tie.Need-cast-z Inv-loop μ-loop
 cast-z c = omega (arith, last c)
 
-mul-size : tie.Need-mul-size Inv-loop μ-loop
-mul-size c = omega arith
-
-array-read-size : tie.Need-array-read-size Inv-loop μ-loop
-array-read-size c = omega arith
-
-cast-size : tie.Need-cast-size Inv-loop μ-loop
-cast-size c = omega (arith, fits c)
-
 sub-send : tie.Need-sub-send Inv-loop μ-loop
 sub-send c = omega arith
 
@@ -121,30 +106,23 @@ part-send-start c = omega arith
 part-send-end : tie.Need-part-send-end Inv-loop μ-loop
 part-send-end c = omega (arith, end c)
 
-slice-relend-prefix-send : tie.Need-slice-relend-prefix-send Inv-loop μ-loop
-slice-relend-prefix-send c = fits (c .before)
-
-slice-aggregate-send : tie.Need-slice-aggregate-send Inv-loop μ-loop
-slice-aggregate-send c = sym (length-take-le _ _ (fits (c .before .before)))
-
 sub-send-2 : tie.Need-sub-send-2 Inv-loop μ-loop
-sub-send-2 c = up (c .before .before)
+sub-send-2 c = up (c .before)
 
 part-send-start-2 : tie.Need-part-send-start-2 Inv-loop μ-loop
-part-send-start-2 c = up (c .before .before)
+part-send-start-2 c = up (c .before)
 
 part-send-end-2 : tie.Need-part-send-end-2 Inv-loop μ-loop
-part-send-end-2 c = last (c .before .before)
+part-send-end-2 c = last (c .before)
 
 send-requires : tie.Need-send-requires Inv-loop μ-loop
 send-requires c κs =
-    let k = c .before .before .before in
+    let k = c .before .before in
     let l = k .before .before .loop in
-    let s = k .before .before .before .before .before .before .before .before .before .before .before in (
+    let s = k .before .before .before .before .before .before .before .before .before in (
       opens k,
       inside k,
       content-part (o k) (opens k) (i k) (inside k) (s .args .contents .now) (l .inv .1) (k .count2 .ensures .0) (s .pre .1) .1,
-      length-take-le _ _ (fits k) ∙ size-is (o k) (opens k) (i k) (inside k),
       part-length (l .out) _ _ (up k) (last k) ∙ cut-share (o k) (opens k) (i k) (inside k),
     )
 
@@ -157,19 +135,18 @@ loop-less c = omega arith
 loop-again : tie.Need-loop-again Inv-loop μ-loop
 unfolding bitsOf
 loop-again c =
-    let k = c .before .before .before .before .before .before .before .before in
+    let k = c .before .before .before .before .before in
     let l = k .before .before .loop in
-    let s = k .before .before .before .before .before .before .before .before .before .before .before in
-    let y = c .before .before .before .before .send in
+    let s = k .before .before .before .before .before .before .before .before .before in
+    let y = c .before .before .send in
     let sh = o k .fields in
     let f = s .args .frame .0 in
     let part = content-part (o k) (opens k) (i k) (inside k) (s .args .contents .now) (l .inv .1) (k .count2 .ensures .0) (s .pre .1) .0 in
     let g = y .ensures ∙ ap (λ (x : List ℕ). sentOf asIs sh f (i k) (equalised 0 (ttiOf sh (i k)) (sizeOf sh (i k)) x)) part in
-    let n = y .kept .1 .1 .1 .1 .1 .0 ∙ part-length (l .out) _ _ (up k) (last k) in
-    let m = sent-more (o k) (opens k) (i k) (inside k) (λ j. sentOf asIs sh f j (bitsOf sh (s .args .contents .now) j)) (s .args .out .now) (l .out) (l .inv .4) n g in (
+    let n = y .kept .1 .1 .1 .1 .0 ∙ part-length (l .out) _ _ (up k) (last k) in
+    let m = sent-more (o k) (opens k) (i k) (inside k) (λ j. sentOf asIs sh f j (bitsOf sh (s .args .contents .now) j)) (s .args .out .now) (l .out) (l .inv .3) n g in (
       omega arith,
       sum-more (encodedOf sh) (i k) (l .inv .1) (k .count2 .ensures .0),
-      prefix-long (l .room) (y .last .1 .1 .1 .1 .0) (getD (o k .sizes) (i k) 0) (y .kept .1 .1 .1 .1 .0) (fits k) ∙ l .inv .2,
       laid-long _ _ _ _ m (omega (arith, high-is (o k) (opens k) (i k) (inside k), last k)),
       m,
     )
@@ -177,18 +154,15 @@ loop-again c =
 same-length : tie.Need-same-length Inv-loop μ-loop
 same-length c = c .before .loop .inv .2
 
-same-length-2 : tie.Need-same-length-2 Inv-loop μ-loop
-same-length-2 c = c .before .loop .inv .3
-
 returns : tie.Need-returns Inv-loop μ-loop
 unfolding multiplexedBits multiplexed
 returns c =
-    let s = c .before .before .before .before .before .before .before .before .before .before in
+    let s = c .before .before .before .before .before .before .before .before in
     let l = c .before .loop in
     let sh = s .args .opened .fields in
     let e : l .i ≡ sh .channels = omega arith in
-    let d = ap (cutOf sh) e ∙ cuts-end sh (s .pre .0 .accepted) ∙ sym (s .pre .3) in
-    laid-all _ _ _ _ (l .inv .4) d ∙ ap (joined (λ k. sentOf asIs sh (s .args .frame .0) k (bitsOf sh (s .args .contents .now) k))) e
+    let d = ap (cutOf sh) e ∙ cuts-end sh (s .pre .0 .accepted) ∙ sym (s .pre .2) in
+    laid-all _ _ _ _ (l .inv .3) d ∙ ap (joined (λ k. sentOf asIs sh (s .args .frame .0) k (bitsOf sh (s .args .contents .now) k))) e
 
 pub multiplex-bits-spec : {M : Type 1} → statement M
 multiplex-bits-spec =
@@ -209,14 +183,9 @@ multiplex-bits-spec =
     mul-z
     array-read-z
     cast-z
-    mul-size
-    array-read-size
-    cast-size
     sub-send
     part-send-start
     part-send-end
-    slice-relend-prefix-send
-    slice-aggregate-send
     sub-send-2
     part-send-start-2
     part-send-end-2
@@ -225,5 +194,4 @@ multiplex-bits-spec =
     loop-less
     loop-again
     same-length
-    same-length-2
     returns)

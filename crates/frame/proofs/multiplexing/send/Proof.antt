@@ -1,11 +1,11 @@
 use native.Mathlib.Omega.{arith}
-use mathlib.Core.Path.{_≡_, sym, ap, _∙_}
+use mathlib.Core.Path.{_≡_, sym, ap, ap₂, _∙_}
 use Prim.Native.Nat.{ℕ, _%_}
-use lib.ListN.{length}
 use Rattle.sheet.specs.Fields.{ttiOf}
-use Rattle.sheet.specs.Sizes.{framesOf, sizeOf}
-use Rattle.interleaving.specs.First.{equalised, segmentOf}
-use Rattle.frame.proofs.SendLaws.{segmenting, segment-is, segment-sized, segment-one, sent-is, fits-by}
+use Rattle.sheet.specs.Sizes.{framesIn, framesOf}
+use Rattle.orders.specs.Orders.{columnAt}
+use Rattle.orders.proofs.OrderLaws.{frames-bounds}
+use Rattle.frame.proofs.SendLaws.{column-one, strided, sent-is, fits-by}
 use borrow.Author.Needs.{needs}
 use Rattle.frame.proofs.multiplexing.send.Statement.{statement}
 use Rattle.frame.proofs.multiplexing.send.Tie as tie
@@ -16,57 +16,25 @@ mul-tti c = search needs
 array-read-tti : tie.Need-array-read-tti
 array-read-tti c = search needs
 
--- n = frame number mod F
-turn : (c : tie.After-within)
-    → c .within .result
-    ≡ (let s = c .before .before .before .before .before .before .before .before .before in s .args .frame .0 % framesOf (s .args .opened .fields) (s .args .i))
-turn c =
-    let s = c .before .before .before .before .before .before .before .before .before in
-    c .within .ensures .0 ∙ ap (λ (x : ℕ). s .args .frame .0 % x) (c .before .frames .ensures .0)
-
--- the room holds the channel's segment
-seated : (c : tie.After-segment)
-    → c .segment .last .1 .1 .1 .1 .0
-    ≡ (let s = c .before .before .before .before .before .before .before .before .before .before .before .before in
-    segmentOf (ttiOf (s .args .opened .fields) (s .args .i)) (s .args .frame .0 % framesOf (s .args .opened .fields) (s .args .i)) (sizeOf (s .args .opened .fields) (s .args .i)) (equalised 0 (ttiOf (s .args .opened .fields) (s .args .i)) (sizeOf (s .args .opened .fields) (s .args .i)) (s .args .contents .now)))
-seated c =
-    let n = c .before .before in
-    let s = n .before .before .before .before .before .before .before .before .before .before in
-    c .segment .ensures
-    ∙ segment-is (s .args .opened .fields) (s .pre .0 .accepted) (s .args .i) (s .pre .1) (s .args .frame .0) (s .args .contents .now) (n .count .ensures .0)
-    (turn (n .before)) (s .pre .3)
-
-sized : (c : tie.After-segment)
-    → length (c .segment .last .1 .1 .1 .1 .0)
-    ≡ (let s = c .before .before .before .before .before .before .before .before .before .before .before .before in sizeOf (s .args .opened .fields) (s .args .i))
-sized c =
-    let s = c .before .before .before .before .before .before .before .before .before .before .before .before in
-    ap length (seated c)
-    ∙ segment-sized (s .args .opened .fields) (s .pre .0 .accepted) (s .args .i) (s .pre .1) (s .args .frame .0) (s .args .contents .now) (s .pre .2)
-
--- with F = 1 the contents are the segment
-alone : (c : tie.Then1)
-    → (let s = c .before .before .before .before .before .before .before in
-    segmentOf (ttiOf (s .args .opened .fields) (s .args .i)) (s .args .frame .0 % framesOf (s .args .opened .fields) (s .args .i)) (sizeOf (s .args .opened .fields) (s .args .i)) (equalised 0 (ttiOf (s .args .opened .fields) (s .args .i)) (sizeOf (s .args .opened .fields) (s .args .i)) (s .args .contents .now))
-    ≡ s .args .contents .now)
-alone c =
-    let s = c .before .before .before .before .before .before .before in
-    segment-one (s .args .opened .fields) (s .pre .0 .accepted) (s .args .i) (s .pre .1) (s .args .frame .0) (s .args .contents .now) (c .if1 .taken) (s .pre .2)
-
 walk-of-requires : tie.Need-walk-of-requires
 walk-of-requires c κs = search needs
+
+-- F = 1
+single : (c : tie.Then1) → 1 ≡ (let s = c .before .before .before .before .before .before in framesOf (s .args .opened .fields) (s .args .i))
+single c = ap framesIn (sym (c .if1 .taken))
 
 match-rate-requires : tie.Need-match-rate-requires
 match-rate-requires c κs =
     let w = c .before .before in
-    let s = w .before .before .before .before .before .before in
-    fits-by (s .args .opened .fields) (s .args .frame .0) (s .args .i) (w .walk-of .result) (w .walk-of .ensures)
-    (ap length (sym (alone (c .before))) ∙ segment-sized (s .args .opened .fields) (s .pre .0 .accepted) (s .args .i) (s .pre .1) (s .args .frame .0) (s .args .contents .now) (s .pre .2))
-    (s .pre .4)
+    let s = c .before .before .before .before .before .before .before in
+    let sh = s .args .opened .fields in (
+      fits-by sh (s .args .frame .0) (s .args .i) (w .walk-of .result) (w .walk-of .ensures) (w .walk-of .ensures .size) (s .pre .3),
+      strided sh (s .pre .0 .accepted) (s .args .i) (s .pre .1) (single (c .before)) (w .walk-of .ensures .size) (s .pre .2),
+    )
 
 frames-requires : tie.Need-frames-requires
 frames-requires c κs =
-    let s = c .before .before .before .before .before .before .before in
+    let s = c .before .before .before .before .before .before in
     s .pre .0 .accepted .ranged .tti (s .args .i) (s .pre .1)
 
 within-requires : tie.Need-within-requires
@@ -75,51 +43,53 @@ within-requires c κs = search needs
 count-requires : tie.Need-count-requires
 count-requires c κs = search needs
 
-segment-requires : tie.Need-segment-requires
-segment-requires c κs =
-    let n = c .before in
-    let w = n .before in
-    let s = w .before .before .before .before .before .before .before .before .before in
-    segmenting (s .args .opened .fields) (s .pre .0 .accepted) (s .args .i) (s .pre .1) (s .args .frame .0) (n .count .ensures .0) (turn w)
-    (omega (arith, w .within .ensures .1, w .before .frames .ensures .0)) (s .pre .3) (s .pre .2)
+column-requires : tie.Need-column-requires
+column-requires c κs =
+    let s = c .before .before .before .before .before .before .before .before .before in
+    let known = s .pre .0 .accepted .ranged .tti (s .args .i) (s .pre .1) in
+    let b = frames-bounds (ttiOf (s .args .opened .fields) (s .args .i)) known in
+    (omega (arith, c .count .ensures .0, known), omega (arith, c .before .within .ensures .1, c .before .before .frames .ensures .0, b .1))
+
+-- the column of n = frame number mod F
+turned : (c : tie.After-column)
+    → c .column .result
+    ≡ (let s = c .before .before .before .before .before .before .before .before .before .before in
+    columnAt (ttiOf (s .args .opened .fields) (s .args .i)) (s .args .frame .0 % framesOf (s .args .opened .fields) (s .args .i)))
+turned c =
+    let s = c .before .before .before .before .before .before .before .before .before .before in
+    let k = c .before .before .within .ensures .0 ∙ ap (λ (x : ℕ). s .args .frame .0 % x) (c .before .before .before .frames .ensures .0) in
+    c .column .ensures .0 ∙ ap₂ columnAt (c .before .count .ensures .0) k
 
 match-rate-requires-2 : tie.Need-match-rate-requires-2
 match-rate-requires-2 c κs =
-    let g = c .before .before .before .before in
-    let w = g .before .before .before .before .before .before in
-    let s = w .before .before .before .before .before .before in
-    fits-by (s .args .opened .fields) (s .args .frame .0) (s .args .i) (w .walk-of .result) (w .walk-of .ensures) (sized g) (s .pre .4)
+    let w = c .before .before .before .before .before .before in
+    let s = c .before .before .before .before .before .before .before .before .before .before .before in
+    let sh = s .args .opened .fields in (
+      fits-by sh (s .args .frame .0) (s .args .i) (w .walk-of .result) (w .walk-of .ensures) (w .walk-of .ensures .size) (s .pre .3),
+      strided sh (s .pre .0 .accepted) (s .args .i) (s .pre .1) (c .before .before .before .before .frames .ensures .0) (w .walk-of .ensures .size) (s .pre .2),
+    )
 
 same-length : tie.Need-same-length
 same-length c = search needs
 
 returns : tie.Need-returns
 returns c =
-    let m = c .before .before in
-    let t = m .before .before in
-    let w = t .before in
-    let s = w .before .before .before .before .before .before in
+    let w = c .before .before .before .before .before in
+    let s = c .before .before .before .before .before .before .before .before .before .before in
     let sh = s .args .opened .fields in
-    let b = s .args .contents .now in
-    sent-is sh (s .pre .0 .accepted) (s .args .i) (s .pre .1) (s .args .frame .0) (w .walk-of .result) (w .walk-of .ensures)
-    (equalised 0 (ttiOf sh (s .args .i)) (sizeOf sh (s .args .i)) b) (sym (alone t))
-    (ap length (sym (alone t)) ∙ segment-sized sh (s .pre .0 .accepted) (s .args .i) (s .pre .1) (s .args .frame .0) b (s .pre .2)) (m .match-rate .ensures)
+    let i = s .args .i in
+    sent-is sh (s .pre .0 .accepted) i (s .pre .1) (s .args .frame .0) (w .walk-of .result) (w .walk-of .ensures) (s .args .contents .now) (s .pre .2)
+    (column-one (ttiOf sh i) (s .args .frame .0) (c .before .before .before .before .if1 .taken)) (single (c .before .before .before .before)) (c .before .before .match-rate .ensures)
 
 same-length-2 : tie.Need-same-length-2
 same-length-2 c = search needs
 
-same-length-3 : tie.Need-same-length-3
-same-length-3 c = search needs
-
 returns-2 : tie.Need-returns-2
 returns-2 c =
-    let m = c .before .before in
-    let g = m .before .before .before .before .before in
-    let w = g .before .before .before .before .before .before in
-    let s = w .before .before .before .before .before .before in
-    let sh = s .args .opened .fields in
-    sent-is sh (s .pre .0 .accepted) (s .args .i) (s .pre .1) (s .args .frame .0) (w .walk-of .result) (w .walk-of .ensures)
-    (equalised 0 (ttiOf sh (s .args .i)) (sizeOf sh (s .args .i)) (s .args .contents .now)) (seated g) (sized g) (m .match-rate2 .ensures)
+    let w = c .before .before .before .before .before .before .before .before .before in
+    let s = c .before .before .before .before .before .before .before .before .before .before .before .before .before .before in
+    sent-is (s .args .opened .fields) (s .pre .0 .accepted) (s .args .i) (s .pre .1) (s .args .frame .0) (w .walk-of .result) (w .walk-of .ensures)
+    (s .args .contents .now) (s .pre .2) (turned (c .before .before .before .before)) (c .before .before .before .before .before .before .before .frames .ensures .0) (c .before .before .match-rate2 .ensures)
 
 pub send-spec : {M : Type 1} → statement M
 send-spec =
@@ -132,10 +102,9 @@ send-spec =
     frames-requires
     within-requires
     count-requires
-    segment-requires
+    column-requires
     match-rate-requires-2
     same-length
     returns
     same-length-2
-    same-length-3
     returns-2)

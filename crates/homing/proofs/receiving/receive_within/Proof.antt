@@ -11,43 +11,37 @@ use Rattle.homing.proofs.receiving.receive_within.Tie as tie
 -- the gathered values fill the first part of their room
 module _ (g : tie.After-gather-values) where
   abbrev s : tie.Start
-  s = g .before .before .before .before .before .before .before
+  s = g .before .before .before .before .before
 
   abbrev out : List Float
-  out = g .gather-values .last .1 .1 .1 .0
+  out = g .gather-values .last .1 .1 .0
 
   full : length out ≡ length (s .args .frame .now)
-  full = g .gather-values .kept .1 .1 .1 .0 ∙ length-take-le _ _ (s .pre .4)
+  full = g .gather-values .kept .1 .1 .0 ∙ length-take-le _ _ (s .pre .3)
 
-  front : let n = length (s .args .frame .now) in take n (out ++ drop n (s .args .values .now)) ≡ out
+  front : let n = length (s .args .frame .now) in take n (out ++ drop n (s .args .room .now)) ≡ out
   front = take-at out _ _ full
 
 slice-relend-prefix-gather-values : tie.Need-slice-relend-prefix-gather-values
 slice-relend-prefix-gather-values c = search needs
 
 slice-aggregate-gather-values : tie.Need-slice-aggregate-gather-values
-slice-aggregate-gather-values c = sym (length-take-le _ _ (c .before .before .before .before .before .pre .3))
-
-slice-relend-prefix-gather-values-2 : tie.Need-slice-relend-prefix-gather-values-2
-slice-relend-prefix-gather-values-2 c = search needs
-
-slice-aggregate-gather-values-2 : tie.Need-slice-aggregate-gather-values-2
-slice-aggregate-gather-values-2 c = sym (length-take-le _ _ (c .before .before .before .before .before .before .pre .4))
+slice-aggregate-gather-values c = sym (length-take-le _ _ (c .before .before .before .before .pre .3))
 
 gather-values-requires : tie.Need-gather-values-requires
 gather-values-requires c κs =
-    let p = c .before .before .before .before .before .before .pre in
-    (p .0 .accepted, p .1, length-take-le _ _ (p .3) ∙ p .1, length-take-le _ _ (p .4) ∙ p .1)
+    let p = c .before .before .before .before .pre in
+    (p .0 .accepted, p .1, length-take-le _ _ (p .3) ∙ p .1)
 
 slice-reshare-prefix-answer : tie.Need-slice-reshare-prefix-answer
 slice-reshare-prefix-answer c = search needs
 
 slice-aggregate-answer : tie.Need-slice-aggregate-answer
-slice-aggregate-answer c = let g = c .before .before .before .before .before in sym (ap (λ (l : List Float). length l) (front g) ∙ full g)
+slice-aggregate-answer c = let g = c .before .before .before in sym (ap (λ (l : List Float). length l) (front g) ∙ full g)
 
 answer-requires : tie.Need-answer-requires
 answer-requires c κs =
-    let g = c .before .before .before .before .before .before in
+    let g = c .before .before .before .before in
     (s g .pre .0, ap (λ (l : List Float). length l) (front g) ∙ full g ∙ s g .pre .1, s g .pre .2)
 
 same-length : tie.Need-same-length
@@ -56,13 +50,10 @@ same-length c = search needs
 same-length-2 : tie.Need-same-length-2
 same-length-2 c = search needs
 
-same-length-3 : tie.Need-same-length-3
-same-length-3 c = search needs
-
 returns : tie.Need-returns
 returns c =
     let a = c .before .before in
-    let g = a .before .before .before .before .before .before .before in
+    let g = a .before .before .before .before .before in
     let sh = s g .args .opened .fields in
     let n = s g .args .number .0 in
     let e = front g ∙ g .gather-values .ensures in (
@@ -76,13 +67,10 @@ receive-within-spec =
     (tie.spec
     slice-relend-prefix-gather-values
     slice-aggregate-gather-values
-    slice-relend-prefix-gather-values-2
-    slice-aggregate-gather-values-2
     gather-values-requires
     slice-reshare-prefix-answer
     slice-aggregate-answer
     answer-requires
     same-length
     same-length-2
-    same-length-3
     returns)
