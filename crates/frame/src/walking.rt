@@ -2,15 +2,18 @@
 ghost use mathlib.Core.Path.{_≡_};
 ghost use Prim.Native.Nat.{_≤_, _<_};
 ghost use Rattle.sheet.specs.Counts.{mostTti, mostEncoded, mostBits};
+ghost use Rattle.sheet.specs.Fields.{ttiOf};
+ghost use Rattle.sheet.specs.Sizes.{sizeOf};
+ghost use Rattle.sheet.specs.Range.{Accepted};
 ghost use Rattle.matching.specs.Signed.{signedBy};
+ghost use Rattle.matching.specs.Shares.{shareOf};
 ghost use Rattle.offset.specs.Offset.{startOf};
-ghost use Rattle.opening.specs.Opened.{Opens};
 ghost use Rattle.frame.specs.Walk.{Walks};
 use counters::FrameNumber;
 use matching::shares::Change;
+use matching::shares::difference;
 use offset::start;
-use opening::Opened;
-use opening::change;
+use sheet::Sheet;
 
 // N, the start e, and d by its sign and its magnitude m.
 pub struct Walk {
@@ -34,16 +37,14 @@ pub fn start_of(n: u64, d: Change, tti: u16, frame: FrameNumber) -> u64
     start(n, d, tti, frame)
 }
 
-// The walk of channel i, counted from 0, in a frame.
-pub fn walk_of(opened: Opened, i: usize, number: FrameNumber) -> Walk
-    requires { ⌜ Opens opened × (i < opened .fields .channels) ⌝ }
-    ensures { λ r. ⌜ Walks (opened .fields) (number .0) i r ⌝ }
+// The walk of channel i, counted from 0, in a frame, by its N, its V and its TTI. The fields are there for the contract alone: a struct out of which
+// an array is read would be copied whole for each channel.
+pub fn walk_of(fields: Sheet, i: usize, n: u64, v: u64, tti: u16, number: FrameNumber) -> Walk
+    requires { ⌜ Accepted fields × (i < fields .channels) × (n ≡ sizeOf fields i) × (v ≡ shareOf fields i) × (tti ≡ ttiOf fields i) ⌝ }
+    ensures { λ r. ⌜ Walks fields (number .0) i r ⌝ }
 {
-    let fields = opened.fields;
-    let sizes = opened.sizes;
-    let n = sizes[i] as u64;
-    let d = change(opened, i);
-    let e = start_of(n, d, fields.tti[i], number);
+    let d = difference(v, n);
+    let e = start_of(n, d, tti, number);
     Walk {
         n: n as usize,
         e: e as usize,

@@ -4,12 +4,9 @@ ghost use Prim.Native.Nat.{_≤_, _<_};
 ghost use Rattle.sheet.specs.Counts.{mostBits};
 ghost use Rattle.sheet.specs.Sizes.{capacityAll};
 ghost use Rattle.sheet.specs.Range.{Ranged, Accepted};
-ghost use Rattle.matching.specs.Shares.{shareOf, changeOf, channelOf};
-ghost use Rattle.matching.specs.Signed.{signedBy};
+ghost use Rattle.matching.specs.Shares.{shareOf, channelOf};
 ghost use Rattle.opening.specs.Opened.{sizesOf, openedOf, closed, openAnswer, Opens};
-use matching::shares::Change;
 use matching::shares::cuts;
-use matching::shares::difference;
 use sheet::Sheet;
 use sheet::count;
 use sheet::counts::CHANNELS;
@@ -112,15 +109,6 @@ pub fn share(opened: Opened, i: usize) -> u64
 {
     let z = opened.cuts;
     (z[i + 1] - z[i]) as u64
-}
-
-// d = V - N of channel i, counted from 0.
-pub fn change(opened: Opened, i: usize) -> Change
-    requires { ⌜ Opens opened × (i < opened .fields .channels) ⌝ }
-    ensures { λ r. ⌜ (signedBy (r .less) (r .size) ≡ changeOf (opened .fields) i) × (r .size ≤ mostBits) ⌝ }
-{
-    let sizes = opened.sizes;
-    difference(share(opened, i), sizes[i] as u64)
 }
 
 // Step 7: the channel, counted from 0, in whose part index x of the multiplexed frame lies. The Z are lent beside the opened sheet, which is copied

@@ -14,7 +14,7 @@ use Rattle.sheet.specs.Sizes.{sizeOf, encodedAll}
 use Rattle.matching.specs.Shares.{cutOf}
 use Rattle.opening.specs.Opened.{Opens}
 use Rattle.opening.specs.declared.Opened.{Opened}
-use Rattle.opening.proofs.OpenLaws.{high-is, cut-rises}
+use Rattle.opening.proofs.OpenLaws.{size-is, high-is, cut-rises}
 use Rattle.interleaving.specs.First.{equalised}
 use Rattle.pattern.specs.Pattern.{asIs}
 use Rattle.frame.specs.Frame.{sentOf, bitsOf, multiplexed, multiplexedBits}
@@ -25,23 +25,23 @@ use Rattle.frame.proofs.multiplexing.multiplex_bits.Statement.{statemen
 use Rattle.frame.proofs.multiplexing.multiplex_bits.Tie as tie
 
 abbrev Inv-loop : tie.InvT-loop
-Inv-loop contents opened frame out₀ es cuts n i₀ from₀ out i from =
-    (i ≤ n) × (from ≡ sumTo (encodedOf (opened .fields)) i) × (length out ≡ length out₀)
-    × Laid out₀ out (cutOf (opened .fields) i) (joined (λ k. sentOf asIs (opened .fields) (frame .0) k (bitsOf (opened .fields) contents k)) i)
+Inv-loop contents frame out₀ fields es ttis sizes cuts n i₀ from₀ out i from =
+    (i ≤ n) × (from ≡ sumTo (encodedOf fields) i) × (length out ≡ length out₀)
+    × Laid out₀ out (cutOf fields i) (joined (λ k. sentOf asIs fields (frame .0) k (bitsOf fields contents k)) i)
 
 abbrev μ-loop : tie.MeasureT-loop
-μ-loop contents opened frame out₀ es cuts n i₀ from₀ out i from = n - i
+μ-loop contents frame out₀ fields es ttis sizes cuts n i₀ from₀ out i from = n - i
 
 -- the channel's part of the contents, and of the frame
 module _ (c : tie.After-count2 Inv-loop μ-loop) where
   abbrev o : Opened
-  o = c .before .before .before .before .before .before .before .before .before .args .opened
+  o = c .before .before .before .before .before .before .before .before .before .before .before .args .opened
 
   abbrev i : ℕ
   i = c .before .before .loop .i
 
   opens : Opens o
-  opens = c .before .before .before .before .before .before .before .before .before .pre .0
+  opens = c .before .before .before .before .before .before .before .before .before .before .before .pre .0
 
   inside : i < o .fields .channels
   inside = omega arith
@@ -61,7 +61,7 @@ count-requires c κs = search needs
 loop-holds : tie.Need-loop-holds Inv-loop μ-loop
 unfolding sumTo joined
 loop-holds c =
-    let s = c .before .before .before .before .before .before in
+    let s = c .before .before .before .before .before .before .before .before in
     (omega arith, refl, refl, sent-none (s .args .opened .fields) (s .pre .0 .accepted) _)
 
 mul-count : tie.Need-mul-count Inv-loop μ-loop
@@ -97,6 +97,21 @@ array-read-z c = omega arith
 cast-z : tie.Need-cast-z Inv-loop μ-loop
 cast-z c = omega (arith, last c)
 
+mul-wide : tie.Need-mul-wide Inv-loop μ-loop
+mul-wide c = omega arith
+
+array-read-wide : tie.Need-array-read-wide Inv-loop μ-loop
+array-read-wide c = omega arith
+
+wide-requires : tie.Need-wide-requires Inv-loop μ-loop
+wide-requires c κs = search needs
+
+mul-tti : tie.Need-mul-tti Inv-loop μ-loop
+mul-tti c = omega arith
+
+array-read-tti : tie.Need-array-read-tti Inv-loop μ-loop
+array-read-tti c = omega arith
+
 sub-send : tie.Need-sub-send Inv-loop μ-loop
 sub-send c = omega arith
 
@@ -104,24 +119,26 @@ part-send-start : tie.Need-part-send-start Inv-loop μ-loop
 part-send-start c = omega arith
 
 part-send-end : tie.Need-part-send-end Inv-loop μ-loop
-part-send-end c = omega (arith, end c)
+part-send-end c = omega (arith, end (c .before))
 
 sub-send-2 : tie.Need-sub-send-2 Inv-loop μ-loop
-sub-send-2 c = up (c .before)
+sub-send-2 c = up (c .before .before)
 
 part-send-start-2 : tie.Need-part-send-start-2 Inv-loop μ-loop
-part-send-start-2 c = up (c .before)
+part-send-start-2 c = up (c .before .before)
 
 part-send-end-2 : tie.Need-part-send-end-2 Inv-loop μ-loop
-part-send-end-2 c = last (c .before)
+part-send-end-2 c = last (c .before .before)
 
 send-requires : tie.Need-send-requires Inv-loop μ-loop
 send-requires c κs =
-    let k = c .before .before in
+    let k = c .before .before .before in
     let l = k .before .before .loop in
-    let s = k .before .before .before .before .before .before .before .before .before in (
-      opens k,
+    let s = k .before .before .before .before .before .before .before .before .before .before .before in (
+      opens k .accepted,
       inside k,
+      c .before .before .wide .ensures .0 ∙ size-is (o k) (opens k) (i k) (inside k),
+      refl,
       content-part (o k) (opens k) (i k) (inside k) (s .args .contents .now) (l .inv .1) (k .count2 .ensures .0) (s .pre .1) .1,
       part-length (l .out) _ _ (up k) (last k) ∙ cut-share (o k) (opens k) (i k) (inside k),
     )
@@ -135,15 +152,15 @@ loop-less c = omega arith
 loop-again : tie.Need-loop-again Inv-loop μ-loop
 unfolding bitsOf
 loop-again c =
-    let k = c .before .before .before .before .before in
+    let k = c .before .before .before .before .before .before in
     let l = k .before .before .loop in
-    let s = k .before .before .before .before .before .before .before .before .before in
+    let s = k .before .before .before .before .before .before .before .before .before .before .before in
     let y = c .before .before .send in
     let sh = o k .fields in
     let f = s .args .frame .0 in
     let part = content-part (o k) (opens k) (i k) (inside k) (s .args .contents .now) (l .inv .1) (k .count2 .ensures .0) (s .pre .1) .0 in
     let g = y .ensures ∙ ap (λ (x : List ℕ). sentOf asIs sh f (i k) (equalised 0 (ttiOf sh (i k)) (sizeOf sh (i k)) x)) part in
-    let n = y .kept .1 .1 .1 .1 .0 ∙ part-length (l .out) _ _ (up k) (last k) in
+    let n = y .kept .1 .1 .1 .1 .1 .1 .0 ∙ part-length (l .out) _ _ (up k) (last k) in
     let m = sent-more (o k) (opens k) (i k) (inside k) (λ j. sentOf asIs sh f j (bitsOf sh (s .args .contents .now) j)) (s .args .out .now) (l .out) (l .inv .3) n g in (
       omega arith,
       sum-more (encodedOf sh) (i k) (l .inv .1) (k .count2 .ensures .0),
@@ -157,7 +174,7 @@ same-length c = c .before .loop .inv .2
 returns : tie.Need-returns Inv-loop μ-loop
 unfolding multiplexedBits multiplexed
 returns c =
-    let s = c .before .before .before .before .before .before .before .before in
+    let s = c .before .before .before .before .before .before .before .before .before .before in
     let l = c .before .loop in
     let sh = s .args .opened .fields in
     let e : l .i ≡ sh .channels = omega arith in
@@ -183,6 +200,11 @@ multiplex-bits-spec =
     mul-z
     array-read-z
     cast-z
+    mul-wide
+    array-read-wide
+    wide-requires
+    mul-tti
+    array-read-tti
     sub-send
     part-send-start
     part-send-end

@@ -19,12 +19,12 @@ use Rattle.homing.proofs.taking.take_segments.Statement.{statement}
 use Rattle.homing.proofs.taking.take_segments.Tie as tie
 
 abbrev Inv-loop : tie.InvT-loop
-Inv-loop values opened number joined₀ fields sizes cuts n base₀ i₀ joined base i =
-    (i ≤ n) × (base ≡ channelStart (opened .fields) i) × (length joined ≡ length joined₀)
-    × (joined ≡ takenFrom (opened .fields) (number .0) values i joined₀)
+Inv-loop values number joined₀ fields ttis sizes cuts n base₀ i₀ joined base i =
+    (i ≤ n) × (base ≡ channelStart fields i) × (length joined ≡ length joined₀)
+    × (joined ≡ takenFrom fields (number .0) values i joined₀)
 
 abbrev μ-loop : tie.MeasureT-loop
-μ-loop values opened number joined₀ fields sizes cuts n base₀ i₀ joined base i = n - i
+μ-loop values number joined₀ fields ttis sizes cuts n base₀ i₀ joined base i = n - i
 
 -- the channel's segment and its values
 module _ (c : tie.After-segment-from Inv-loop μ-loop) where
@@ -35,13 +35,13 @@ module _ (c : tie.After-segment-from Inv-loop μ-loop) where
   o = start .args .opened
 
   abbrev i : ℕ
-  i = c .before .before .before .before .loop .i
+  i = c .before .before .before .loop .i
 
   opens : Opens o
   opens = start .pre .0
 
   inside : i < o .fields .channels
-  inside = omega (arith, c .before .before .before .before .before .count .ensures .0)
+  inside = omega (arith, c .before .before .before .before .count .ensures .0)
 
   size : getD (o .sizes) i 0 ≡ sizeOf (o .fields) i
   size = size-is o opens i inside
@@ -50,11 +50,11 @@ module _ (c : tie.After-segment-from Inv-loop μ-loop) where
   whole : c .before .frames .result * getD (o .sizes) i 0 ≡ equalisedOf (o .fields) i
   whole = ap₂ _*_ (c .before .frames .ensures .0) size
 
-  end : c .before .before .before .before .loop .base + equalisedOf (o .fields) i ≤ length (c .before .before .before .before .loop .joined)
+  end : c .before .before .before .loop .base + equalisedOf (o .fields) i ≤ length (c .before .before .before .loop .joined)
   unfolding channelStart
-  end = let l = c .before .before .before .before .loop in omega (arith, sum-within (equalisedOf (o .fields)) i (o .fields .channels) inside, l .inv .1, l .inv .2, start .pre .2)
+  end = let l = c .before .before .before .loop in omega (arith, sum-within (equalisedOf (o .fields)) i (o .fields .channels) inside, l .inv .1, l .inv .2, start .pre .2)
 
-  fits : c .before .before .before .before .loop .base + c .segment-from .result + getD (o .sizes) i 0 ≤ length (c .before .before .before .before .loop .joined)
+  fits : c .before .before .before .loop .base + c .segment-from .result + getD (o .sizes) i 0 ≤ length (c .before .before .before .loop .joined)
   fits = omega (arith, end, whole, c .segment-from .ensures .1)
 
   up : getD (o .cuts) i 0 ≤ getD (o .cuts) (i + 1) 0
@@ -79,23 +79,23 @@ array-read-size c = omega arith
 cast-size : tie.Need-cast-size Inv-loop μ-loop
 cast-size c = search needs
 
-mul-frames : tie.Need-mul-frames Inv-loop μ-loop
-mul-frames c = omega arith
+mul-tti : tie.Need-mul-tti Inv-loop μ-loop
+mul-tti c = omega arith
 
-element-copy-out-frames : tie.Need-element-copy-out-frames Inv-loop μ-loop
-element-copy-out-frames c = omega arith
+array-read-tti : tie.Need-array-read-tti Inv-loop μ-loop
+array-read-tti c = omega arith
 
 frames-requires : tie.Need-frames-requires Inv-loop μ-loop
 frames-requires c κs =
-    let l = c .before .before .loop in
+    let l = c .before .loop in
     let s = c .before .before .before .before .before .before .before .before .before in
-    s .pre .0 .accepted .ranged .tti (l .i) (omega (arith, c .before .before .before .count .ensures .0))
+    s .pre .0 .accepted .ranged .tti (l .i) (omega (arith, c .before .before .count .ensures .0))
 
 segment-from-requires : tie.Need-segment-from-requires Inv-loop μ-loop
 segment-from-requires c κs =
-    let i = c .before .before .before .loop .i in
+    let i = c .before .before .loop .i in
     let s = c .before .before .before .before .before .before .before .before .before .before in
-    let l : i < s .args .opened .fields .channels = omega (arith, c .before .before .before .before .count .ensures .0) in (
+    let l : i < s .args .opened .fields .channels = omega (arith, c .before .before .before .count .ensures .0) in (
       omega (arith, c .frames .ensures .1),
       c .frames .ensures .2,
       omega (arith, size-is (s .args .opened) (s .pre .0) i l, sizes-most (s .args .opened .fields) (s .pre .0 .accepted) i l),
@@ -155,11 +155,12 @@ part-take-channel-end-2 c = fits (c .before)
 take-channel-requires : tie.Need-take-channel-requires Inv-loop μ-loop
 take-channel-requires c κs =
     let k = c .before .before in
-    let l = k .before .before .before .before .loop in
+    let l = k .before .before .before .loop in
     let a = l .base + k .segment-from .result in
     let e : a + getD (o k .sizes) (i k) 0 - a ≡ sizeOf (o k .fields) (i k) = omega (arith, size k) in (
-      opens k,
+      opens k .accepted,
       inside k,
+      refl,
       part-length (start k .args .values .now) _ _ (up k) (last k) ∙ cut-share (o k) (opens k) (i k) (inside k),
       part-length (l .joined) a (a + getD (o k .sizes) (i k) 0) (omega arith) (fits k) ∙ e,
     )
@@ -180,18 +181,18 @@ loop-again : tie.Need-loop-again Inv-loop μ-loop
 unfolding channelStart
 loop-again c =
     let k = c .before .before .before .before .before in
-    let l = k .before .before .before .before .loop in
+    let l = k .before .before .before .loop in
     let y = c .before .before .take-channel in
     let sh = o k .fields in
     let a = l .base + k .segment-from .result in
     let b = a + getD (o k .sizes) (i k) 0 in
     let vs = start k .args .values .now in
     let n = start k .args .number .0 in
-    let m = y .kept .1 .1 .1 .1 .0 ∙ part-length (l .joined) a b (omega arith) (fits k) in
+    let m = y .kept .1 .1 .1 .1 .1 .0 ∙ part-length (l .joined) a b (omega arith) (fits k) in
     let from = k .segment-from .ensures .0 ∙ ap₂ (λ (f s : ℕ). n % f * s) (k .before .frames .ensures .0) (size k) in (
       omega arith,
       sum-more (equalisedOf sh) (i k) (l .inv .1) (whole k),
-      same-len-mid a (b - a) (l .joined) (y .last .1 .1 .1 .1 .0) (y .kept .1 .1 .1 .1 .0) ∙ l .inv .2,
+      same-len-mid a (b - a) (l .joined) (y .last .1 .1 .1 .1 .1 .0) (y .kept .1 .1 .1 .1 .1 .0) ∙ l .inv .2,
       taken-next (o k) (opens k) n vs (start k .args .joined .now) (l .joined) (i k) (l .base) (k .segment-from .result) (inside k) (l .inv .3) (l .inv .1) from (size k) (fits k) m
           (y .ensures ∙ ap (homeIn sh n (i k)) (part-at (o k) (opens k) (i k) (inside k) vs)),
     )
@@ -201,7 +202,7 @@ same-length c = c .before .loop .inv .2
 
 returns : tie.Need-returns Inv-loop μ-loop
 returns c =
-    let s = c .before .before .before .before .before .before .before .before in
+    let s = c .before .before .before .before .before .before .before .before .before in
     let l = c .before .loop in
     let e : l .i ≡ s .args .opened .fields .channels = omega (arith, c .before .before .count .ensures .0) in
     l .inv .3 ∙ ap (λ (k : ℕ). takenFrom (s .args .opened .fields) (s .args .number .0) (s .args .values .now) k (s .args .joined .now)) e
@@ -217,8 +218,8 @@ take-segments-spec =
     mul-size
     array-read-size
     cast-size
-    mul-frames
-    element-copy-out-frames
+    mul-tti
+    array-read-tti
     frames-requires
     segment-from-requires
     add-at
