@@ -2,8 +2,8 @@
 use mathlib.Core.Path.{_≡_, refl, sym, ap, ap₂, _∙_, fun-ext}
 use mathlib.Core.List.{List, [], _∷_, _++_}
 use mathlib.Core.Logic.{_⊎_, inl, inr, ⊎-elim}
-use Prim.Native.Nat.{ℕ, zero, suc, _+_, _*_, _-_, _≤_, _<_}
-use native.Mathlib.Nat.{mul-le-mul-right, suc-mul, zero-add, suc-add}
+use Prim.Native.Nat.{ℕ, zero, suc, _+_, _*_, _-_, _%_, _≤_, _<_}
+use native.Mathlib.Nat.{mul-le-mul-left, mul-le-mul-right, suc-mul, zero-add, suc-add}
 use native.Mathlib.Decide.{decLt, ℕ-discrete}
 use native.Mathlib.Numerals.{add-one}
 use native.Mathlib.Omega.{arith}
@@ -13,54 +13,71 @@ use lib.Arith.{lt-of-le-ne}
 use lib.Seq.{ext-getD, getD-set-same, getD-set-other, getD-take, getD-drop, length-take-le, set-append-left, take-at, drop-at}
 use Rattle.laws.specs.Sums.{sumTo}
 use Rattle.laws.proofs.TestLaws.{split}
+use Rattle.sheet.specs.Counts.{mostBits}
 use Rattle.interleaving.specs.Second.{secondInterleaved, readBefore, comesFrom}
 use Rattle.interleaving.specs.Turns.{Seated}
 use Rattle.interleaving.specs.declared.second.Seat.{Seat}
 use Rattle.interleaving.proofs.SecondLaws.{source-below, second-at, second-set}
 use Rattle.mapping.specs.declared.pairs.Pair.{Pair}
 use Rattle.mapping.specs.declared.lines.Line.{Line}
+use Rattle.mapping.specs.declared.lines.Walk.{Walk}
 use Rattle.mapping.specs.Mapping.{posOf}
-use Rattle.mapping.specs.Lines.{bitOn, rankOn, spotOn, indexOn, copied, wholeLine, Within, partFrom}
+use Rattle.mapping.specs.Lines.{bitOn, rankOn, spotOn, indexOn, copied, wholeLine, Within, Threaded, Walked, Way, Passed, Ready, partFrom}
 use Rattle.mapping.specs.Pairs.{capsIn, runsIn, placeIn, lineOf, Fit, Traced}
+use Rattle.mapping.proofs.PlaceLaws.{pos-up, pos-down, pos-in}
 use Rattle.mapping.proofs.TurnLaws.{placeOf-within, placeOf-apart}
 use Rattle.mapping.proofs.RunLaws.{in-runs-some}
 
--- the loop of a copy: i elements are passed, and the next has index k, and is bit y of its PhCH
-pub record Counting (l : Line) (at i k y : ℕ) : Type 0 where
-  pub far : i ≤ l .count
-  pub index : k ≡ indexOn at l i
-  pub rank : y ≡ rankOn l i
+-- ---- a walk along a line
 
-pub counting-starts : (l : Line) (at : ℕ) → Counting l at 0 (at + l .bit) (l .rank)
-counting-starts l at = record { far = omega arith; index = omega arith; rank = omega arith }
-
-module _ {l : Line} {at i k y : ℕ} (c : Counting l at i k y) where
+module _ {l : Line} {at : ℕ} {w : Walk} (c : Walked l at w) where
   -- the index tells whether there is one more
-  pub counting-some : k < at + l .bit + l .count * l .step → i < l .count
-  counting-some h =
-      split (l .count) i (λ le. let e : i ≡ l .count = omega (arith, c .far) in absurd (omega (arith, c .index, ap (λ (n : ℕ). n * l .step) e)))
+  pub walked-some : w .k < at + l .bit + l .count * l .step → w .i < l .count
+  walked-some h =
+      split (l .count) (w .i) (λ le. let e : w .i ≡ l .count = omega (arith, c .far) in absurd (omega (arith, c .index, ap (λ (n : ℕ). n * l .step) e)))
       (λ lt. lt)
 
-  pub counting-ends : 0 < l .step → at + l .bit + l .count * l .step ≤ k → i ≡ l .count
-  counting-ends p h =
-      split (l .count) i (λ le. omega (arith, c .far))
-      (λ lt. let m : suc i ≤ l .count = lt in absurd (omega (arith, c .index, mul-le-mul-right (l .step) m)))
+  pub walked-ends : 0 < l .step → at + l .bit + l .count * l .step ≤ w .k → w .i ≡ l .count
+  walked-ends p h =
+      split (l .count) (w .i) (λ le. omega (arith, c .far))
+      (λ lt. let m : suc (w .i) ≤ l .count = lt in absurd (omega (arith, c .index, mul-le-mul-right (l .step) m)))
 
-  -- the place that the code works out
-  pub spot-is : {n : ℕ} → n ≡ l .base + (posOf (l .room) (l .p + 1) y - 1) → n ≡ spotOn l i
-  spot-is e = e ∙ ap (λ (z : ℕ). l .base + (posOf (l .room) (l .p + 1) z - 1)) (c .rank)
+  -- one more is one of a slot's
+  pub walked-inside : {bits places : ℕ} → Within bits places l → w .k < at + l .bit + l .count * l .step → w .k < at + bits
+  walked-inside g h = omega (arith, c .index, g .given (w .i) (walked-some h))
 
-  module _ (h : i < l .count) where
-    pub counting-more : Counting l at (i + 1) (k + l .step) (y + l .apart)
-    counting-more = record { far = omega arith; index = omega (arith, c .index); rank = omega (arith, c .rank) }
+-- the place of the next bit is one way on
+pub spot-next : {l : Line} {way bits places : ℕ} (i : ℕ) → Way l way → Within bits places l → i + 1 < l .count → (spotOn l i + way) % 18446744073709551616 ≡ spotOn l (i + 1)
+spot-next {l} {way} i v g h = elim (ℕ-discrete (l .p % 2) 0) [
+  | yes e ↦
+      omega (
+        arith,
+        v .up e,
+        pos-up (l .room) (l .p) (rankOn l i) e,
+        pos-up (l .room) (l .p) (rankOn l (i + 1)) e,
+        g .inside (i + 1) h,
+        g .room,
+        g .few,
+      )
+  | no e ↦
+      omega (
+        arith,
+        v .down e,
+        pos-down (l .room) (l .p) (rankOn l i) e,
+        pos-down (l .room) (l .p) (rankOn l (i + 1)) e,
+        g .inside (i + 1) h,
+        g .room,
+        g .few,
+      )
+]
 
-    -- where it reads and writes
-    module _ {bits places : ℕ} (g : Within bits places l) where
-      pub counting-rank : (y < l .room) × (l .base + l .room < 18446744073709551616)
-      counting-rank = omega (arith, c .rank, g .inside i h, g .room, g .few)
-
-      pub counting-index : k < at + bits
-      counting-index = omega (arith, c .index, g .given i h)
+pub walked-more : {l : Line} {at way bits places : ℕ} {w r : Walk} → Way l way → Within bits places l → Walked l at w → w .i < l .count → Passed l way w r
+    → Walked l at r
+walked-more {l} {at} {way} {w = w} {r} v g c h p = record {
+  far = omega (arith, p .i);
+  index = rw (p .i) (omega (arith, c .index, p .k));
+  place = λ m. p .place ∙ ap (λ (n : ℕ). (n + way) % 18446744073709551616) (c .place h) ∙ spot-next (w .i) v g (omega (arith, p .i)) ∙ ap (spotOn l) (sym (p .i));
+}
 
 module _ {A : Type 0} (d : A) (from to : ℕ → ℕ) (src : List A) where
   pub copied-length : (old : List A) (n : ℕ) → length (copied d from to src n old) ≡ length old
@@ -99,32 +116,118 @@ within-span {bits} {places} {l} g =
     let b : bitOn l c < bits = g .given c (omega arith) in
     rw e (omega (arith, b, g .near, suc-mul c (l .step))))
 
--- ---- through step 8
+-- ---- copying through step 8
 
--- index k comes from `from`, as long as the turn goes
-pub record Coming (K : ℕ) (s : Seat) (k from : ℕ) : Type 0 where
-  pub begun : readBefore K (s .turn) ≤ k
-  pub comes : k < s .end → from ≡ comesFrom K k
+-- a line's indices of turn t, up to `last`; they come from every 30th element
+pub record Turn (n places at : ℕ) (l : Line) (way t last : ℕ) : Type 0 where
+  pub within : Within places places l
+  pub inside : at + places ≤ n
+  pub most : n ≤ mostBits
+  pub moves : Way l way
+  pub number : t < 30
+  pub row : (k m : ℕ) → readBefore n t ≤ k → k + m < last → comesFrom n (k + m) ≡ comesFrom n k + 30 * m
+  pub ends : (last ≤ n) × (last ≤ at + l .bit + l .count * l .step)
 
-pub coming-starts : {K k : ℕ} {s : Seat} → Seated K k s → Coming K s k (s .from)
-coming-starts e = record { begun = e .begun; comes = λ h. e .from }
+pub turn-starts : {n places at : ℕ} {l : Line} {way k last : ℕ} {s : Seat} {begins columns : List ℕ} → Within places places l
+    → Threaded n at places begins columns → Way l way → Seated n k s → (last ≤ s .end) × (last ≤ at + l .bit + l .count * l .step)
+    → Turn n places at l way (s .turn) last
+turn-starts g h v e b = record {
+  within = g;
+  inside = h .inside;
+  most = h .most;
+  moves = v;
+  number = e .turn;
+  row = λ k m r q. e .row k m r (omega (arith, b));
+  ends = (omega (arith, b, e .last), b .1);
+}
 
-pub coming-more : {K j k from : ℕ} {s : Seat} (n : ℕ) → Seated K j s → Coming K s k from → k < s .end → Coming K s (k + n) (from + 30 * n)
-coming-more {k = k} n e c h = record { begun = omega (arith, c .begun); comes = λ m. omega (arith, c .comes h, e .row k n (c .begun) m) }
+-- within the turn: what the walk has passed is copied into u, where j elements were into v
+pub record Copying {A : Type 0} (n places at : ℕ) (l : Line) (way t last : ℕ) (d : A) (from to : ℕ → ℕ) (src : List A) (j : ℕ) (v : List A) (w : Walk) (u : List A) : Type 0 where
+  pub turn : Turn n places at l way t last
+  pub walked : Walked l at w
+  pub begun : readBefore n t ≤ w .k
+  pub comes : w .k < last → w .seat ≡ comesFrom n (w .k)
+  pub copied : Copied d from to src j v (w .i) u
 
-module _ {A : Type 0} {K j k from : ℕ} {s : Seat} (xs : List A) (n : length xs ≡ K) (e : Seated K j s) (c : Coming K s k from) (h : k < s .end) where
-  pub coming-below : from < length xs
-  coming-below = omega (arith, n, c .comes h, e .last, source-below K k (omega (arith, e .last)))
+pub copying-starts : {A : Type 0} {n places at : ℕ} {l : Line} {way last : ℕ} {d : A} {from to : ℕ → ℕ} {src : List A} {w : Walk} {s : Seat} (v : List A) → Turn n places at l way (s .turn) last → Walked l at w
+    → Seated n (w .k) s → Copying n places at l way (s .turn) last d from to src (w .i) v (record { i = w .i; k = w .k; seat = s .from; place = w .place }) v
+copying-starts {w = w} v t c e = record {
+  turn = t;
+  walked = record { far = c .far; index = c .index; place = c .place };
+  begun = e .begun;
+  comes = λ h. e .from;
+  copied = copied-same (w .i) v;
+}
 
-  here : from ≡ comesFrom (length xs) k
-  here = c .comes h ∙ ap (λ (m : ℕ). comesFrom m k) (sym n)
+module _ {A : Type 0} {n places at : ℕ} {l : Line} {way t last : ℕ} {d : A} {from to : ℕ → ℕ} {src : List A} {j : ℕ} {v : List A} {w : Walk} {u : List A} (c : Copying n places at l way t last d from to src j v w u) (h : w .k < last) where
+  one : w .i < l .count
+  one = walked-some (c .walked) (omega (arith, c .turn .ends))
 
-  -- the element read there, and what an element written there does
-  pub coming-read : (d : A) → getD xs from d ≡ getD (secondInterleaved xs) k d
-  coming-read d = ap (λ (i : ℕ). getD xs i d) here ∙ sym (second-at xs k d (omega (arith, n, e .last)))
+  -- where it reads and writes
+  pub copying-ready : Ready n places l w
+  copying-ready =
+      let x = c .turn .within .inside (w .i) one in
+      record {
+        seat = omega (arith, c .comes h, source-below n (w .k) (omega (arith, c .turn .ends)));
+        place = omega (arith, c .walked .place one, c .turn .within .room, x, pos-in (l .room) (l .p + 1) (rankOn l (w .i)) x);
+        index = (omega (arith, c .walked .index, mul-le-mul-left (w .i) (c .turn .within .some)), omega (arith, c .turn .ends));
+        few = (omega (arith, c .turn .most), omega (arith, c .turn .within .few));
+        near = c .turn .within .near .0;
+      }
 
-  pub coming-write : (v : A) → secondInterleaved (set xs from v) ≡ set (secondInterleaved xs) k v
-  coming-write v = ap (λ (i : ℕ). secondInterleaved (set xs i v)) here ∙ second-set xs k v (omega (arith, n, e .last))
+  copying-more : {r : Walk} {x : List A} → Passed l way w r → x ≡ set u (to (w .i)) (getD src (from (w .i)) d)
+      → Copying n places at l way t last d from to src j v r x
+  copying-more {r} {x} p e = record {
+    turn = c .turn;
+    walked = walked-more (c .turn .moves) (c .turn .within) (c .walked) one p;
+    begun = omega (arith, c .begun, p .k);
+    comes = λ m. p .seat ∙ omega (arith, c .comes h, c .turn .row (w .k) (l .step) (c .begun) (omega (arith, p .k))) ∙ ap (comesFrom n) (sym (p .k));
+    copied = rw (p .i) (copied-more (c .copied) refl refl e);
+  }
+
+  seat-is : (xs : List A) → length xs ≡ n → w .seat ≡ comesFrom (length xs) (w .k)
+  seat-is xs e = c .comes h ∙ ap (λ (m : ℕ). comesFrom m (w .k)) (sym e)
+
+-- bits are put from the walk's seat to its place
+pub record Putting {A : Type 0} (at : ℕ) (l : Line) (way t last : ℕ) (d : A) (bits : List A) (j : ℕ) (v : List A) (w : Walk) (u : List A) : Type 0 where
+  pub copying : Copying (length bits) (length v) at l way t last d (indexOn at l) (spotOn l) (secondInterleaved bits) j v w u
+
+module _ {A : Type 0} {at : ℕ} {l : Line} {way t last : ℕ} {d : A} {bits : List A} {j : ℕ} {v : List A} {w : Walk} {u : List A}
+    (p : Putting at l way t last d bits j v w u) (h : w .k < last) where
+  pub put-ready : Ready (length bits) (length u) l w
+  put-ready = rw (p .copying .copied .long) (copying-ready (p .copying) h)
+
+  pub put-more : {r : Walk} {x : List A} → Passed l way w r → x ≡ set u (w .place) (getD bits (w .seat) d) → Putting at l way t last d bits j v r x
+  put-more q e =
+      let c = p .copying in
+      let k : w .k < length bits = omega (arith, c .turn .ends) in
+      let y : getD bits (w .seat) d ≡ getD (secondInterleaved bits) (indexOn at l (w .i)) d =
+      ap (λ (i : ℕ). getD bits i d) (seat-is c h bits refl) ∙ sym (second-at bits (w .k) d k) ∙ ap (λ (i : ℕ). getD (secondInterleaved bits) i d) (c .walked .index) in
+      record { copying = copying-more c h q (e ∙ ap₂ (λ (i : ℕ) (x : A). set u i x) (c .walked .place (one c h)) y) }
+
+-- soft values are taken from its place to its seat
+pub record Taking {A : Type 0} (n at : ℕ) (l : Line) (way t last : ℕ) (d : A) (frame : List A) (j : ℕ) (v : List A) (w : Walk) (u : List A) : Type 0 where
+  pub copying : Copying n (length frame) at l way t last d (spotOn l) (indexOn at l) frame j (secondInterleaved v) w (secondInterleaved u)
+  pub long : length u ≡ n
+
+module _ {A : Type 0} {n at : ℕ} {l : Line} {way t last : ℕ} {d : A} {frame : List A} {j : ℕ} {v : List A} {w : Walk} {u : List A}
+    (p : Taking n at l way t last d frame j v w u) (h : w .k < last) where
+  pub take-ready : Ready (length u) (length frame) l w
+  take-ready = rw (p .long) (copying-ready (p .copying) h)
+
+  pub take-more : {r : Walk} {x : List A} → Passed l way w r → x ≡ set u (w .seat) (getD frame (w .place) d) → Taking n at l way t last d frame j v r x
+  take-more q e =
+      let c = p .copying in
+      let y = getD frame (w .place) d in
+      record {
+        copying =
+            copying-more c h q
+            (ap secondInterleaved e
+            ∙ ap (λ (i : ℕ). secondInterleaved (set u i y)) (seat-is c h u (p .long))
+            ∙ second-set u (w .k) y (omega (arith, c .turn .ends, p .long))
+            ∙ ap₂ (λ (k i : ℕ). set (secondInterleaved u) k (getD frame i d)) (c .walked .index) (c .walked .place (one c h)));
+        long = ap length e ∙ length-set u (w .seat) y ∙ p .long;
+      }
 
 -- ---- a part of a longer list
 

@@ -2,13 +2,14 @@
 -- of the slot is the one that step 8 puts to index at + k.
 use mathlib.Core.Path.{_≡_}
 use mathlib.Core.List.{List}
-use Prim.Native.Nat.{ℕ, zero, suc, _+_, _-_, _*_, _≤_, _<_}
+use Prim.Native.Nat.{ℕ, zero, suc, _+_, _-_, _*_, _%_, _≤_, _<_}
 use lib.ListN.{getD, set, take, drop}
 use Rattle.sheet.specs.Counts.{mostBits}
 use Rattle.orders.specs.Orders.{order}
 use Rattle.interleaving.specs.Turns.{Turned}
 use Rattle.mapping.specs.Mapping.{posOf}
 use Rattle.mapping.specs.declared.lines.Line.{Line}
+use Rattle.mapping.specs.declared.lines.Walk.{Walk}
 use Rattle.mapping.specs.declared.Mark.{Mark}
 use Rattle.mapping.specs.declared.Stretch.{Stretch}
 
@@ -39,6 +40,32 @@ pub record Within (bits places : ℕ) (l : Line) : Type 0 where
   pub few : (bits < 4294967296) × (places < 4294967296) × (l .bit < 4294967296)
   pub near : (l .step ≤ 32) × (l .apart ≤ 16)
   pub some : 0 < l .step
+
+-- a walk stands before a bit of a line, or after its last
+pub record Walked (l : Line) (at : ℕ) (w : Walk) : Type 0 where
+  pub far : w .i ≤ l .count
+  pub index : w .k ≡ indexOn at l (w .i)
+  pub place : w .i < l .count → w .place ≡ spotOn l (w .i)
+
+-- how far the places move from one bit to the next, modulo 2^64, where they go up and where they go down
+pub record Way (l : Line) (way : ℕ) : Type 0 where
+  pub up : l .p % 2 ≡ 0 → way ≡ l .apart
+  pub down : (l .p % 2 ≡ 0 → ⊥) → (way + l .apart) % 18446744073709551616 ≡ 0
+
+-- the walk moves from w to r
+pub record Passed (l : Line) (way : ℕ) (w r : Walk) : Type 0 where
+  pub i : r .i ≡ w .i + 1
+  pub k : r .k ≡ w .k + l .step
+  pub seat : r .seat ≡ w .seat + 30 * l .step
+  pub place : r .place ≡ (w .place + way) % 18446744073709551616
+
+-- it stands before one of so many bits and places, and can move on
+pub record Ready (bits places : ℕ) (l : Line) (w : Walk) : Type 0 where
+  pub seat : w .seat < bits
+  pub place : w .place < places
+  pub index : (w .i ≤ w .k) × (w .k < bits)
+  pub few : (bits < 4294967296) × (places < 4294967296)
+  pub near : l .step ≤ 32
 
 -- a stretch as a line
 abbrev pub lineAlong : Mark → Stretch → Line
