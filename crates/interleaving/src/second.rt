@@ -1,6 +1,6 @@
 // Step 8 as a walk over interleaved elements has it: which element each index comes from.
 ghost use mathlib.Core.Path.{_≡_};
-ghost use Prim.Native.Nat.{_+_, _≤_, _<_};
+ghost use Prim.Native.Nat.{_+_, _*_, _≤_, _<_};
 ghost use lib.ListN.{getD};
 ghost use Rattle.sheet.specs.Counts.{mostBits};
 ghost use Rattle.orders.specs.Orders.{order};
@@ -24,16 +24,26 @@ fn height_of(n: u64, c: u64) -> u64
     (n + 29 - c) / 30
 }
 
+// The same of `rows` whole rows and `rest` elements more, where n has been divided once for all columns.
+fn height_by(rows: usize, rest: usize, c: usize) -> usize
+    requires { ⌜ (30 * rows + rest ≤ mostBits) × (rest < 30) × (c < 30) ⌝ }
+    ensures { λ r. ⌜ r ≡ height 30 (30 * rows + rest) c ⌝ }
+{
+    if c < rest { rows + 1 } else { rows }
+}
+
 // Where each turn begins among n interleaved elements, and where the last ends.
 pub fn begin_turns(n: usize) -> [usize; 31]
     requires { ⌜ n ≤ mostBits ⌝ }
     ensures { λ r. ⌜ Turned n r ⌝ }
 {
     let order = orders::columns();
+    let rows = n / 30;
+    let rest = n % 30;
     let mut begins = [0usize; 31];
     let mut t: usize = 0;
     while t < 30 {
-        begins[t + 1] = begins[t] + height_of(n as u64, column_at(&order, t) as u64) as usize;
+        begins[t + 1] = begins[t] + height_by(rows, rest, column_at(&order, t));
         t += 1;
     }
     begins

@@ -1,6 +1,6 @@
 use borrow.Author.Needs.{needs}
 use native.Mathlib.Omega.{arith}
-use mathlib.Core.Path.{_≡_, refl, ap, _∙_}
+use mathlib.Core.Path.{_≡_, refl}
 use Prim.Native.Nat.{suc, _-_}
 use lib.ListN.{getD}
 use Rattle.orders.specs.Orders.{order}
@@ -11,10 +11,10 @@ use Rattle.interleaving.proofs.second.begin_turns.Statement.{statement}
 use Rattle.interleaving.proofs.second.begin_turns.Tie as tie
 
 abbrev Inv-loop : tie.InvT-loop
-Inv-loop n order begins₀ t₀ begins t = Begins n begins t
+Inv-loop n order rows rest begins₀ t₀ begins t = Begins n begins t
 
 abbrev μ-loop : tie.MeasureT-loop
-μ-loop n order begins₀ t₀ begins t = 30 - t
+μ-loop n order rows rest begins₀ t₀ begins t = 30 - t
 
 columns-requires : tie.Need-columns-requires Inv-loop μ-loop
 columns-requires c κs = search needs
@@ -23,11 +23,9 @@ loop-holds : tie.Need-loop-holds Inv-loop μ-loop
 loop-holds c = begins-none (c .before .args .n)
 
 -- the height of this turn's column
-high : (c : tie.After-height-of Inv-loop μ-loop)
-    → c .height-of .result ≡ height 30 (c .before .before .before .before .before .before .args .n) (getD order (c .before .before .before .before .loop .t) 0)
-high c =
-    let s = c .before .before .before .before .before .before in
-    c .height-of .ensures ∙ ap (height 30 (s .args .n)) (c .before .column-at .ensures .0)
+high : (c : tie.After-height-by Inv-loop μ-loop)
+    → c .height-by .result ≡ height 30 (c .before .before .before .before .before .before .args .n) (getD order (c .before .before .before .before .loop .t) 0)
+high c = omega (arith, c .height-by .ensures, c .before .column-at .ensures)
 
 mul-begins : tie.Need-mul-begins Inv-loop μ-loop
 mul-begins c = omega arith
@@ -38,8 +36,8 @@ array-read-begins c = omega arith
 column-at-requires : tie.Need-column-at-requires Inv-loop μ-loop
 column-at-requires c κs = (c .before .before .before .columns .ensures, omega arith)
 
-height-of-requires : tie.Need-height-of-requires Inv-loop μ-loop
-height-of-requires c κs = (c .before .before .before .before .before .pre, c .column-at .ensures .1)
+height-by-requires : tie.Need-height-by-requires Inv-loop μ-loop
+height-by-requires c κs = (omega (arith, c .before .before .before .before .before .pre), omega arith, c .column-at .ensures .1)
 
 add-begins : tie.Need-add-begins Inv-loop μ-loop
 add-begins c =
@@ -79,7 +77,7 @@ begin-turns-spec =
     mul-begins
     array-read-begins
     column-at-requires
-    height-of-requires
+    height-by-requires
     add-begins
     add-begins-2
     mul-begins-2
