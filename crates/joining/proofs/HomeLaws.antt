@@ -1,5 +1,5 @@
 -- Laws of step 6's way back: how long it is, what each position gets, and the segment as it was sent.
-use mathlib.Core.Path.{_≡_, refl, sym, ap, ap₂, _∙_}
+use mathlib.Core.Path.{_≡_, refl, sym, ap, _∙_}
 use mathlib.Core.Bool.{Bool, true, false}
 use mathlib.Core.List.{List, [], _∷_, map}
 use Prim.Native.Nat.{ℕ, zero, suc, _+_, _*_, _-_, _≤_, _<_}
@@ -19,12 +19,7 @@ use Rattle.pattern.proofs.SourceLaws.{sent-up}
 use Rattle.pattern.proofs.SegmentLaws.{shared-by}
 use Rattle.joining.specs.declared.Heard.{Heard}
 use Rattle.joining.specs.declared.Heard.the-variants.{Nothing, Once}
-use Rattle.joining.specs.Joining.{rawOf, clipped, clippedOf, joinOf, valueOf, heardOf, homeOf, sumsOf}
-use Rattle.joining.proofs.ClipLaws.{clip-heard}
-
--- the sums of bits by their shares of the values sent
-abbrev pub sums : List (List Float) → List Float
-sums ls = map valueOf (map rawOf ls)
+use Rattle.joining.specs.Joining.{rawOf, clipped, clippedOf, joinOf, valueOf, heardOf, homeOf}
 
 -- one for each bit
 pub length-heard : (d : ℤ) (N e : ℕ) (vs : List Float) → length (heardOf d N e vs) ≡ N
@@ -45,20 +40,6 @@ pub home-shared : (d : ℤ) (N e j : ℕ) (vs : List Float) (z : Float) → j < 
 unfolding homeOf
 home-shared d N e j vs z h =
     map-at valueOf (heardOf d N e vs) j z Nothing (omega (arith, length-heard d N e vs)) ∙ ap valueOf (heard-shared d N e j vs h)
-
--- the sums, and each of them clipped
-pub length-sums : (d : ℤ) (N e : ℕ) (vs : List Float) → length (sumsOf d N e vs) ≡ N
-unfolding sumsOf
-length-sums d N e vs = simp length-map (length-shared d N e vs)
-
-clip-each : (ls : List (List Float)) → map clipped (sums ls) ≡ map valueOf (map joinOf ls)
-unfolding joinOf
-clip-each [] = refl
-clip-each (l ∷ ls) = ap₂ (λ (x : Float) (xs : List Float). x ∷ xs) (sym (clip-heard (rawOf l))) (clip-each ls)
-
-pub sums-clipped : (d : ℤ) (N e : ℕ) (vs : List Float) → map clipped (sumsOf d N e vs) ≡ homeOf d N e vs
-unfolding heardOf homeOf sumsOf
-sums-clipped d N e vs = clip-each (shared d N e vs)
 
 -- where copy c of x came as f x c, it gets the join of f x 0, f x 1, .. of its own x
 pub home-matched : {A : Type 0} (f : A → ℕ → Float) (d : ℤ) (e j : ℕ) (xs : List A) (a : A) (z : Float) → j < length xs
@@ -93,11 +74,6 @@ pub heard-by : (less : Bool) (m N e : ℕ) (vs : List Float) → (less ≡ true 
     → heardOf (signedBy less m) N e vs ≡ map joinOf (sharedFrom less (2 * N) (2 * m) e N vs)
 unfolding heardOf
 heard-by less m N e vs h = ap (map joinOf) (shared-by less m N e vs h)
-
-pub sums-by : (less : Bool) (m N e : ℕ) (vs : List Float) → 0 < m
-    → sumsOf (signedBy less m) N e vs ≡ sums (sharedFrom less (2 * N) (2 * m) e N vs)
-unfolding sumsOf
-sums-by less m N e vs h = ap sums (shared-by less m N e vs (λ q. h))
 
 -- d = 0: each bit is heard once
 each-once : (P e n : ℕ) (vs : List Float) → length vs ≡ n → map joinOf (sharedFrom false P 0 e n vs) ≡ map Once (map clipped vs)

@@ -1,18 +1,21 @@
 -- The walk over the values sent of a segment: where e stands before bit i, which values are left, and what one bit does to both.
-use mathlib.Core.Path.{_≡_, ap}
+use mathlib.Core.Path.{_≡_, sym, ap}
 use mathlib.Core.Bool.{Bool, true, false}
 use mathlib.Core.List.{List, _∷_}
 use Prim.Native.Nat.{ℕ, suc, _+_, _*_, _-_, _≤_, _<_}
 use native.Mathlib.Omega.{arith}
-use lib.ListN.{length, take, drop}
+use lib.ListN.{length, getD, take, drop}
 use lib.Seq.{drop-drop}
-use lib.Ieee.{Float}
+use lib.Ieee.{Float, nan}
 use Rattle.laws.specs.Sums.{sumTo}
 use Rattle.sheet.specs.Counts.{mostEncoded, mostBits}
 use Rattle.pattern.specs.Pattern.{grown, copiesAt, after, copiesFrom, sharedFrom, Stands, Segment}
 use Rattle.pattern.proofs.CountLaws.{again-more, grown-no, after-stands}
 use Rattle.pattern.proofs.WalkLaws.{first-apart}
 use Rattle.pattern.proofs.SegmentLaws.{sized-copies}
+use Rattle.joining.specs.declared.Heard.the-variants.{Once}
+use Rattle.joining.specs.Joining.{rawOf}
+use Rattle.joining.proofs.JoinLaws.{raw-one}
 
 -- ---- one bit
 
@@ -23,6 +26,13 @@ once less p q e h = let g = ap (λ (n : ℕ). n * p) (grown-no less p q e h) in 
     go : (less : Bool) → copiesAt less p q e ≡ 1
     go true = omega (arith, grown-no true p q e h)
     go false = omega (arith, grown-no false p q e h)
+
+-- what was heard of it, where its copies are those from k on, where those of the next bit begin, and e as that bit finds it
+pub once-heard : (less : Bool) (p q e k : ℕ) (vs : List Float) → q < e → k + copiesAt less p q e ≤ length vs
+    → (Once (getD vs k nan) ≡ rawOf (take (copiesAt less p q e) (drop k vs))) × (k + 1 ≡ k + copiesAt less p q e) × (e - q ≡ after less p q e)
+once-heard less p q e k vs h r =
+    let o = once less p q e h in
+    (sym (raw-one vs k (copiesAt less p q e) (o .0) (omega arith)), omega arith, sym (o .1))
 
 -- it grows: once more than from e + p on
 pub more : (p q e : ℕ) → 0 < p → 0 < e → e ≤ q → grown false p q e ≡ suc (grown false p q (e + p))

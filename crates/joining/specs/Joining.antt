@@ -1,10 +1,11 @@
 -- Soft values joined: what was heard of one bit, the value that it gets, and step 6's way back over a segment.
+use mathlib.Core.Path.{_≡_}
 use mathlib.Core.Bool.{true, false, cond}
 use mathlib.Core.List.{List, [], _∷_, foldl, map}
-use Prim.Native.Nat.{ℕ}
+use Prim.Native.Nat.{ℕ, _+_, _<_}
 use lib.IntN.{ℤ, pos}
-use lib.ListN.{length}
-use lib.Ieee.{Float, fin, binary32, add, le}
+use lib.ListN.{length, getD}
+use lib.Ieee.{Float, nan, fin, binary32, add, le}
 use Rattle.pattern.specs.Pattern.{shared}
 use Rattle.joining.specs.declared.Heard.{Heard}
 use Rattle.joining.specs.declared.Heard.the-variants.{Nothing, Once, Joined}
@@ -62,6 +63,8 @@ heardOf d N e vs = map joinOf (shared d N e vs)
 unfoldable pub homeOf : ℤ → ℕ → ℕ → List Float → List Float
 homeOf d N e vs = map valueOf (heardOf d N e vs)
 
--- and the sums as they are before they are clipped, +0.0 of none
-unfoldable pub sumsOf : ℤ → ℕ → ℕ → List Float → List Float
-sumsOf d N e vs = map valueOf (map rawOf (shared d N e vs))
+-- the n places from i on have the values from k on, clipped, and those before have what they had; those behind have anything
+pub record Written (vs old list : List Float) (k i n : ℕ) : Type 0 where
+  pub long : length list ≡ length old
+  pub before : (j : ℕ) → j < i → getD list j nan ≡ getD old j nan
+  pub there : (j : ℕ) → j < n → getD list (i + j) nan ≡ clipped (getD vs (k + j) nan)

@@ -1,6 +1,5 @@
 // What a decoder takes: magnitudes up to 1,024. Both tests ask whether the value stays, so that each compiles to one instruction.
 ghost use mathlib.Core.Path.{_≡_};
-ghost use mathlib.Core.List.{map};
 ghost use Rattle.joining.specs.Joining.{clipped, clippedOf};
 ghost use Rattle.joining.specs.Linked.{capped};
 use crate::Heard;
@@ -29,16 +28,5 @@ pub fn clip_heard(h: Heard) -> Heard
         Heard::Nothing => Heard::Nothing,
         Heard::Once(x) => Heard::Once(clip(x)),
         Heard::Joined(x, copies) => Heard::Joined(clip(x), copies),
-    }
-}
-
-// All of a segment: by itself the loop compiles to steps of four values, as it would not within the walk that joins them.
-pub fn clip_all(segment: &mut [f32])
-    ensures { λ _. ⌜ now (segment .exit) ≡ map clipped (now (segment .entry)) ⌝ }
-{
-    let mut i: usize = 0;
-    while i < segment.len() {
-        segment[i] = clip(segment[i]);
-        i += 1;
     }
 }

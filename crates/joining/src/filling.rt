@@ -1,14 +1,13 @@
 // A segment of joined values, from the values that were sent of it.
 ghost use mathlib.Core.Path.{_≡_};
 ghost use mathlib.Core.List.{map};
-ghost use Prim.Native.Nat.{_<_};
+ghost use Prim.Native.Nat.{_+_, _*_, _^_, _≤_, _<_};
 ghost use lib.ListN.{length};
 ghost use Rattle.matching.specs.Signed.{signedBy};
 ghost use Rattle.pattern.specs.Pattern.{Segment};
-ghost use Rattle.joining.specs.Joining.{clipped, valueOf, homeOf, sumsOf};
+ghost use Rattle.joining.specs.Joining.{clipped, valueOf, homeOf, Written};
 use crate::Heard;
 use crate::clipping::clip;
-use crate::clipping::clip_all;
 use crate::walking::hear_next;
 
 // The value that a bit gets of what was heard of it.
@@ -34,23 +33,84 @@ fn copy_values(values: &[f32], segment: &mut [f32])
     }
 }
 
-// d is not 0: each bit gets the sum of its next copies.
+// Four values. All are read before the first is written, so that the compiler takes the four at once.
+fn copy_four(values: &[f32], k: usize, segment: &mut [f32], i: usize)
+    requires { ⌜ (k + 3 < length (now values)) × (i + 3 < length (now segment)) ⌝ }
+    ensures { λ _. ⌜ Written (now (values .entry)) (now (segment .entry)) (now (segment .exit)) k i 4 ⌝ }
+{
+    let a = clip(values[k]);
+    let b = clip(values[k + 1]);
+    let c = clip(values[k + 2]);
+    let d = clip(values[k + 3]);
+    segment[i] = a;
+    segment[i + 1] = b;
+    segment[i + 2] = c;
+    segment[i + 3] = d;
+}
+
+// So many values, by fours. The up to three that come too much are written over by what follows.
+fn copy_run(values: &[f32], k: usize, segment: &mut [f32], i: usize, count: usize)
+    requires { ⌜ (k + count + 3 ≤ length (now values)) × (i + count + 3 ≤ length (now segment)) ⌝ }
+    ensures { λ _. ⌜ Written (now (values .entry)) (now (segment .entry)) (now (segment .exit)) k i count ⌝ }
+{
+    let mut done: usize = 0;
+    while done < count {
+        copy_four(values, k + done, segment, i + done);
+        done += 4;
+    }
+}
+
+// How often q fits into p, less one, up to 16: so many bits have one copy each after one that is dropped or repeated. Counted up, since a call
+// is to divide seldom. Another number would only be slower.
+fn run_of(p: usize, q: usize) -> usize
+    requires { ⌜ (2 * q < 2 ^ 64) × (p + q < 2 ^ 64) ⌝ }
+    ensures { λ r. ⌜ r ≤ 16 ⌝ }
+{
+    let mut run: usize = 0;
+    let mut fall = 2 * q;
+    while run < 16 {
+        if p < fall {
+            return run;
+        }
+        run += 1;
+        fall += q;
+    }
+    run
+}
+
+// d is not 0: each bit gets the sum of its next copies. After one that is dropped or repeated comes a run of bits with one copy each, copied by
+// fours where it is worth it, and at times one such bit more.
 fn fill(values: &[f32], segment: &mut [f32], start: usize, less: bool, m: usize)
     requires { ⌜ Segment less m (length (now segment)) (length (now values)) start × (0 < m) ⌝ }
-    ensures { λ _. ⌜ now (segment .exit) ≡ sumsOf (signedBy less m) (length (now (segment .entry))) start (now (values .entry)) ⌝ }
+    ensures { λ _. ⌜ now (segment .exit) ≡ homeOf (signedBy less m) (length (now (segment .entry))) start (now (values .entry)) ⌝ }
 {
     let p = 2 * segment.len();
     let q = 2 * m;
+    let run = run_of(p, q);
+    let fall = run * q;
+    let reach = run + 3;
     let mut e = start;
     let mut k: usize = 0;
     let mut i: usize = 0;
     while i < segment.len() {
         let t = hear_next(values, k, less, p, q, e);
         let h = t.heard;
-        segment[i] = value(h);
+        segment[i] = clip(value(h));
         e = t.e;
         k = t.next;
         i += 1;
+        if 1 < run && fall < e && i + reach < segment.len() && k + reach < values.len() {
+            copy_run(values, k, segment, i, run);
+            e -= fall;
+            k += run;
+            i += run;
+            if q < e {
+                segment[i] = clip(values[k]);
+                e -= q;
+                k += 1;
+                i += 1;
+            }
+        }
     }
 }
 
@@ -63,6 +123,5 @@ pub fn join_segment(values: &[f32], segment: &mut [f32], e: usize, less: bool, m
         copy_values(values, segment);
     } else {
         fill(values, segment, e, less, m);
-        clip_all(segment);
     }
 }

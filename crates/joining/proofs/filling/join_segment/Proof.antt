@@ -1,12 +1,9 @@
 use denote.Ref.{now}
-use mathlib.Core.Path.{sym, ap, _∙_}
-use mathlib.Core.List.{map}
+use mathlib.Core.Path.{sym, _∙_}
 use borrow.Author.Needs.{needs}
 use lib.ListN.{length}
-use Rattle.matching.specs.Signed.{signedBy}
 use Rattle.pattern.proofs.SegmentLaws.{sized-same}
-use Rattle.joining.specs.Joining.{clipped}
-use Rattle.joining.proofs.HomeLaws.{sums-clipped, home-same}
+use Rattle.joining.proofs.HomeLaws.{home-same}
 use Rattle.joining.proofs.filling.join_segment.Statement.{statement}
 use Rattle.joining.proofs.filling.join_segment.Tie as tie
 
@@ -18,9 +15,6 @@ copy-values-requires c κs =
 
 fill-requires : tie.Need-fill-requires
 fill-requires c κs = search needs
-
-clip-all-requires : tie.Need-clip-all-requires
-clip-all-requires c κs = search needs
 
 same-length : tie.Need-same-length
 same-length c = search needs
@@ -38,12 +32,7 @@ same-length-2 : tie.Need-same-length-2
 same-length-2 c = search needs
 
 returns-2 : tie.Need-returns-2
-returns-2 c =
-    let u = c .before .before .before .before .before .before .before .before .before .before .before in
-    let a = u .args in
-    c .before .before .clip-all .ensures
-    ∙ ap (map clipped) (c .before .before .before .before .before .before .fill .ensures)
-    ∙ sums-clipped (signedBy (a .less) (a .m)) (length (now (a .segment))) (a .e) (now (a .values))
+returns-2 c = search needs
 
 pub join-segment-spec : {M : Type 1} → statement M
 join-segment-spec =
@@ -51,7 +40,6 @@ join-segment-spec =
     (tie.spec
     copy-values-requires
     fill-requires
-    clip-all-requires
     same-length
     returns
     same-length-2

@@ -4,10 +4,10 @@ use mathlib.Core.Bool.{true}
 use Prim.Native.Nat.{ℕ, _*_, _-_}
 use native.Mathlib.Omega.{arith}
 use borrow.Author.Needs.{needs}
-use Rattle.pattern.specs.Pattern.{grown, copiesAt}
+use Rattle.pattern.specs.Pattern.{grown}
 use Rattle.pattern.proofs.CountLaws.{grown-yes}
-use Rattle.joining.proofs.PlaceLaws.{once}
-use Rattle.joining.proofs.JoinLaws.{raw-none, raw-one}
+use Rattle.joining.proofs.PlaceLaws.{once, once-heard}
+use Rattle.joining.proofs.JoinLaws.{raw-none}
 use Rattle.joining.proofs.walking.hear_next.Statement.{statement}
 use Rattle.joining.proofs.walking.hear_next.Tie as tie
 
@@ -27,12 +27,9 @@ sub-t14 c = search needs
 
 returns : tie.Need-returns
 returns c =
-    let a = c .before .before .before .before .args in
-    let o = once (a .less) (a .p) (a .q) (a .start) (omega arith) in (
-      sym (raw-one (now (a .values)) (a .k) (copiesAt (a .less) (a .p) (a .q) (a .start)) (o .0) (omega arith)),
-      omega arith,
-      sym (o .1),
-    )
+    let u = c .before .before .before .before in
+    let a = u .args in
+    once-heard (a .less) (a .p) (a .q) (a .start) (a .k) (now (a .values)) (omega arith) (u .pre .2)
 
 add-t16 : tie.Need-add-t16
 add-t16 c = search needs

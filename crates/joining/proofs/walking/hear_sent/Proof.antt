@@ -9,12 +9,12 @@ use lib.Dec.{T}
 use lib.ListN.{length, getD}
 use lib.Ieee.{nan, binary32, fits}
 use lib.Ieee.Fits.{add-fits}
-use Rattle.pattern.specs.Pattern.{grown, copiesAt}
+use Rattle.pattern.specs.Pattern.{grown}
 use Rattle.pattern.proofs.CountLaws.{grown-no}
 use Rattle.joining.specs.declared.Heard.the-variants.{Joined}
 use Rattle.joining.specs.Joining.{valueOf}
-use Rattle.joining.proofs.PlaceLaws.{once, more}
-use Rattle.joining.proofs.JoinLaws.{summed, sum-turn, sum-end, raw-one, raw-many}
+use Rattle.joining.proofs.PlaceLaws.{once-heard, more}
+use Rattle.joining.proofs.JoinLaws.{summed, sum-turn, sum-end, raw-many}
 use Rattle.joining.proofs.walking.hear_sent.Statement.{statement}
 use Rattle.joining.proofs.walking.hear_sent.Tie as tie
 
@@ -45,9 +45,10 @@ sub-t14 c = omega arith
 returns : tie.Need-returns Inv-loop μ-loop
 unfolding valueOf
 returns c =
-    let a = c .before .before .args in
-    let o = once false (a .p) (a .q) (a .start) (omega arith) in
-    (sym (raw-one (now (a .values)) (a .k) (copiesAt false (a .p) (a .q) (a .start)) (o .0) (omega arith)), omega arith, sym (o .1), c .before .shared-slice-known .given (a .k))
+    let u = c .before .before in
+    let a = u .args in
+    let o = once-heard false (a .p) (a .q) (a .start) (a .k) (now (a .values)) (omega arith) (u .pre .2) in
+    (o .0, o .1, o .2, c .before .shared-slice-known .given (a .k))
 
 loop-holds : tie.Need-loop-holds Inv-loop μ-loop
 loop-holds c =
