@@ -3,10 +3,11 @@ use mathlib.Core.Path.{_≡_}
 use mathlib.Core.Bool.{true, false, cond}
 use mathlib.Core.List.{List, [], _∷_, foldl, map}
 use Prim.Native.Nat.{ℕ, _+_, _<_}
+use lib.Dec.{T}
 use lib.IntN.{ℤ, pos}
-use lib.ListN.{length, getD}
-use lib.Ieee.{Float, nan, fin, binary32, add, le}
-use Rattle.pattern.specs.Pattern.{shared}
+use lib.ListN.{length, getD, take, drop}
+use lib.Ieee.{Float, nan, fin, binary32, add, le, fits}
+use Rattle.pattern.specs.Pattern.{copiesAt, after, shared}
 use Rattle.joining.specs.declared.Heard.{Heard}
 use Rattle.joining.specs.declared.Heard.the-variants.{Nothing, Once, Joined}
 
@@ -68,3 +69,22 @@ pub record Written (vs old list : List Float) (k i n : ℕ) : Type 0 where
   pub long : length list ≡ length old
   pub before : (j : ℕ) → j < i → getD list j nan ≡ getD old j nan
   pub there : (j : ℕ) → j < n → getD list (i + j) nan ≡ clipped (getD vs (k + j) nan)
+
+-- step 6's way back at a bit that was sent, by p = 2N, q = 2d and e: h was heard of it, whose copies begin at k, those of the next begin at k′,
+-- and e′ is e as that bit finds it
+abbrev pub Sent : ℕ → ℕ → List Float → ℕ → ℕ → Heard → ℕ → ℕ → Type 0
+Sent p q vs e k h k′ e′ =
+    (h ≡ rawOf (take (copiesAt false p q e) (drop k vs))) × (k′ ≡ k + copiesAt false p q e) × (e′ ≡ after false p q e) × T (fits binary32 (valueOf h))
+
+-- at four bits, one after the other
+pub record FourSent (p q : ℕ) (vs : List Float) (e k : ℕ) (f g h j : Heard) (k′ e′ : ℕ) : Type 0 where
+  pub ka : ℕ
+  pub ea : ℕ
+  pub first : Sent p q vs e k f ka ea
+  pub kb : ℕ
+  pub eb : ℕ
+  pub second : Sent p q vs ea ka g kb eb
+  pub kc : ℕ
+  pub ec : ℕ
+  pub third : Sent p q vs eb kb h kc ec
+  pub fourth : Sent p q vs ec kc j k′ e′

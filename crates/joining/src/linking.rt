@@ -10,6 +10,7 @@ ghost use Rattle.joining.specs.Joining.{clipped, clippedOf, heardOf};
 ghost use Rattle.joining.specs.Linked.{magnitudeOf, linkOf, withValue, withHeard, bothOf};
 use crate::Heard;
 use crate::clipping::cap;
+use crate::walking::hear_four;
 use crate::walking::hear_sent;
 
 pub struct Link {
@@ -158,17 +159,14 @@ fn link_sent(values: &[f32], n: usize, start: usize, m: usize) -> Link
     let mut i: usize = 1;
     let last = if 3 < n { n - 3 } else { 0 };
     while i < last {
-        let s = hear_sent(values, k, p, q, e);
-        let t = hear_sent(values, s.next, p, q, s.e);
-        let u = hear_sent(values, t.next, p, q, t.e);
-        let v = hear_sent(values, u.next, p, q, u.e);
-        let f = s.heard;
-        let g = t.heard;
-        let h = u.heard;
-        let j = v.heard;
+        let s = hear_four(values, k, p, q, e);
+        let f = s.f;
+        let g = s.g;
+        let h = s.h;
+        let j = s.j;
         w = w.with(f, g, h, j, i);
-        e = v.e;
-        k = v.next;
+        e = s.e;
+        k = s.next;
         i += 4;
     }
     let mut l = w.whole();

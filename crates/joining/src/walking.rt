@@ -1,12 +1,11 @@
 // Step 6 at one bit, for a walk over values that were sent.
 ghost use mathlib.Core.Path.{_≡_};
 ghost use mathlib.Core.Bool.{false};
-ghost use Prim.Native.Nat.{_+_, _^_, _≤_, _<_};
-ghost use lib.Dec.{T};
+ghost use Prim.Native.Nat.{_+_, _*_, _^_, _≤_, _<_};
 ghost use lib.ListN.{length, take, drop};
-ghost use lib.Ieee.{binary32, fits};
-ghost use Rattle.pattern.specs.Pattern.{copiesAt, after, Stands};
-ghost use Rattle.joining.specs.Joining.{rawOf, valueOf};
+ghost use Rattle.laws.specs.Sums.{sumTo};
+ghost use Rattle.pattern.specs.Pattern.{copiesAt, after, copiesFrom, Stands};
+ghost use Rattle.joining.specs.Joining.{rawOf, Sent, FourSent};
 use crate::Heard;
 
 // What was heard of the bit, not yet clipped, where the copies of the next bit begin, and e as that bit finds it.
@@ -20,7 +19,7 @@ pub struct Step {
 // asks, which is faster for a walk that only looks at the values. What was heard fits an f32, as the order of magnitudes needs.
 pub fn hear_sent(values: &[f32], k: usize, p: usize, q: usize, start: usize) -> Step
     requires { ⌜ Stands false p q start × (p + q < 2 ^ 64) × (k + copiesAt false p q start ≤ length (now values)) ⌝ }
-    ensures { λ r. ⌜ (r .heard ≡ rawOf (take (copiesAt false p q start) (drop k (now (values .entry))))) × (r .next ≡ k + copiesAt false p q start) × (r .e ≡ after false p q start) × T (fits binary32 (valueOf (r .heard))) ⌝ }
+    ensures { λ r. ⌜ Sent p q (now (values .entry)) start k (r .heard) (r .next) (r .e) ⌝ }
 {
     let mut sum = values[k];
     let mut next = k + 1;
@@ -41,6 +40,50 @@ pub fn hear_sent(values: &[f32], k: usize, p: usize, q: usize, start: usize) -> 
         heard: Heard::Joined(sum, next - k),
         next: next,
         e: e - q,
+    }
+}
+
+// Of four bits that were sent.
+pub struct Four {
+    pub f: Heard,
+    pub g: Heard,
+    pub h: Heard,
+    pub j: Heard,
+    pub next: usize,
+    pub e: usize,
+}
+
+// Where e stands above four falls, each of the four has one copy, and the compiler reads them at once.
+pub fn hear_four(values: &[f32], k: usize, p: usize, q: usize, start: usize) -> Four
+    requires { ⌜ Stands false p q start × (p + q < 2 ^ 64) × (4 * q < 2 ^ 64) × (k + sumTo (copiesFrom false p q start) 4 ≤ length (now values)) ⌝ }
+    ensures { λ r. ⌜ FourSent p q (now (values .entry)) start k (r .f) (r .g) (r .h) (r .j) (r .next) (r .e) ⌝ }
+{
+    let four = 4 * q;
+    if four < start {
+        return Four {
+            f: Heard::Once(values[k]),
+            g: Heard::Once(values[k + 1]),
+            h: Heard::Once(values[k + 2]),
+            j: Heard::Once(values[k + 3]),
+            next: k + 4,
+            e: start - four,
+        };
+    }
+    let s = hear_sent(values, k, p, q, start);
+    let t = hear_sent(values, s.next, p, q, s.e);
+    let u = hear_sent(values, t.next, p, q, t.e);
+    let v = hear_sent(values, u.next, p, q, u.e);
+    let f = s.heard;
+    let g = t.heard;
+    let h = u.heard;
+    let j = v.heard;
+    Four {
+        f: f,
+        g: g,
+        h: h,
+        j: j,
+        next: v.next,
+        e: v.e,
     }
 }
 

@@ -6,15 +6,16 @@ use mathlib.Core.Logic.{⊎-elim}
 use Prim.Native.Nat.{ℕ, _+_, _*_, _-_, _^_, _≤_, _<_}
 use native.Mathlib.Omega.{arith}
 use borrow.Author.Needs.{needs}
-use lib.Dec.{T}
 use lib.ListN.{length, take, drop, length-drop}
 use lib.Seq.{length-take-le}
-use lib.Ieee.{Float, binary32, fits}
+use lib.Ieee.{Float}
+use Rattle.laws.specs.Sums.{sumTo}
+use Rattle.laws.proofs.SumLaws.{sum-join}
 use Rattle.matching.specs.Signed.{signedBy}
-use Rattle.pattern.specs.Pattern.{copiesAt, after, sharedFrom, Stands}
+use Rattle.pattern.specs.Pattern.{copiesAt, copiesFrom, sharedFrom, Stands}
 use Rattle.joining.specs.declared.Heard.{Heard}
 use Rattle.joining.specs.declared.linking.Link.{Link}
-use Rattle.joining.specs.Joining.{rawOf, clippedOf, joinOf, valueOf, heardOf}
+use Rattle.joining.specs.Joining.{clippedOf, joinOf, valueOf, heardOf, Sent}
 use Rattle.joining.specs.Linked.{linkOf, withHeard}
 use Rattle.joining.proofs.ClipLaws.{clip-heard, clip-fits}
 use Rattle.joining.proofs.HomeLaws.{heard-by}
@@ -24,18 +25,12 @@ use Rattle.joining.proofs.LaneLaws.{Voiced, voiced, Dealt, none-dealt, 
 use Rattle.joining.proofs.linking.link_sent.Statement.{statement}
 use Rattle.joining.proofs.linking.link_sent.Tie as tie
 
--- what hear_sent says of the bit whose copies begin at k
-abbrev Hears : ℕ → ℕ → List Float → ℕ → ℕ → Heard → ℕ → ℕ → Type 0
-Hears m n vs e k h k′ e′ =
-    let P = 2 * n in let D = 2 * m in
-    (h ≡ rawOf (take (copiesAt false P D e) (drop k vs))) × (k′ ≡ k + copiesAt false P D e) × (e′ ≡ after false P D e) × T (fits binary32 (valueOf h))
-
 record Next (m n : ℕ) (vs : List Float) (e k i e′ k′ : ℕ) (h : Heard) : Type 0 where
   place : Place false m n vs e′ k′ (i + 1)
   bits : map joinOf (left false m n vs e k i) ≡ clippedOf h ∷ map joinOf (left false m n vs e′ k′ (i + 1))
   voice : Voiced (clippedOf h)
 
-hears : {m n e k i e′ k′ : ℕ} {vs : List Float} {h : Heard} → Place false m n vs e k i → i < n → Hears m n vs e k h k′ e′ → Next m n vs e k i e′ k′ h
+hears : {m n e k i e′ k′ : ℕ} {vs : List Float} {h : Heard} → Place false m n vs e k i → i < n → Sent (2 * n) (2 * m) vs e k h k′ e′ → Next m n vs e k i e′ k′ h
 unfolding joinOf
 hears {m} {n} {e} {k} {vs = vs} {h = h} p b t =
     let c = copiesAt false (2 * n) (2 * m) e in
@@ -57,12 +52,20 @@ asks : {m n e k i : ℕ} {vs : List Float} → Place false m n vs e k i → i < 
     → Stands false (2 * n) (2 * m) e × (2 * n + 2 * m < 2 ^ 64) × (k + copiesAt false (2 * n) (2 * m) e ≤ length vs)
 asks p b = (p .here, omega (arith, p .few, p .most), place-room p b)
 
--- the four bits of a turn are there
-there : (i last n : ℕ) → i < last → last ≤ n - 3 → (i < n) × (i + 1 < n) × (i + 1 + 1 < n) × (i + 1 + 1 + 1 < n)
-there i last n h k = (omega arith, omega arith, omega arith, omega arith)
+-- and hear_four, of the four bits of a turn
+asks-four : {m n e k i last : ℕ} {vs : List Float} → Place false m n vs e k i → i < last → last ≤ n - 3
+    → Stands false (2 * n) (2 * m) e × (2 * n + 2 * m < 2 ^ 64) × (4 * (2 * m) < 2 ^ 64) × (k + sumTo (copiesFrom false (2 * n) (2 * m) e) 4 ≤ length vs)
+asks-four {m} {n} {e} {i = i} p h l =
+    let f = copiesFrom false (2 * n) (2 * m) e in
+    let q : n - i ≡ 4 + (n - i - 4) = omega arith in
+    (p .here, omega (arith, p .few, p .most), omega (arith, p .most), omega (arith, p .rest, ap (sumTo f) q, sum-join f 4 (n - i - 4)))
+
+-- they are there, and fewer are left
+there : (i last n : ℕ) → i < last → last ≤ n - 3 → (i < n) × (i + 1 < n) × (i + 1 + 1 < n) × (i + 1 + 1 + 1 < n) × (n - (i + 4) < n - i)
+there i last n h k = (omega arith, omega arith, omega arith, omega arith, omega arith)
 
 turn : {m n e k i e′ k′ : ℕ} {vs : List Float} {all : List Heard} {l l′ : Link} {h : Heard} → Held m n vs all l e k i → i < n
-    → Hears m n vs e k h k′ e′ → l′ ≡ withHeard l i (clippedOf h) → Held m n vs all l′ e′ k′ (i + 1)
+    → Sent (2 * n) (2 * m) vs e k h k′ e′ → l′ ≡ withHeard l i (clippedOf h) → Held m n vs all l′ e′ k′ (i + 1)
 turn w b t q = let x = hears (w .0) b t in (x .place, survey-turn (w .1) (x .bits) q)
 
 done : {m n e k i : ℕ} {vs : List Float} {all : List Heard} {l : Link} → Held m n vs all l e k i → n ≤ i → l ≡ linkOf all
@@ -135,61 +138,36 @@ loop-holds c =
     let d = deal-start (new .result) (clippedOf (h .result .heard)) (ap (λ (l : Link). l .punctured) (new .ensures ∙ link-none)) (c .before .before .with .ensures) (x .voice) (c .before .new3 .ensures) (w .1) in
     (x .place, d, ⊎-elim (λ w. omega (arith, w)) (λ w. omega (arith, w)) (c .if2 .came))
 
-hear-sent-requires-2 : tie.Need-hear-sent-requires-2 Inv-loop μ-loop Inv-loop2 μ-loop2
-hear-sent-requires-2 c κs =
-    let l = c .before .loop in
-    let b = there (l .i) (c .before .before .if2 .last) (c .before .before .before .before .before .before .before .before .before .args .n) (c .loop-test .taken) (l .inv .2) in
-    asks (l .inv .0) (b .0)
-
-hear-sent-requires-3 : tie.Need-hear-sent-requires-3 Inv-loop μ-loop Inv-loop2 μ-loop2
-hear-sent-requires-3 c κs =
-    let l = c .before .before .loop in
-    let b = there (l .i) (c .before .before .before .if2 .last) (c .before .before .before .before .before .before .before .before .before .before .args .n) (c .before .loop-test .taken) (l .inv .2) in
-    let x = hears (l .inv .0) (b .0) (c .hear-sent2 .ensures) in
-    asks (x .place) (b .1)
-
-hear-sent-requires-4 : tie.Need-hear-sent-requires-4 Inv-loop μ-loop Inv-loop2 μ-loop2
-hear-sent-requires-4 c κs =
-    let l = c .before .before .before .loop in
-    let b = there (l .i) (c .before .before .before .before .if2 .last) (c .before .before .before .before .before .before .before .before .before .before .before .args .n) (c .before .before .loop-test .taken) (l .inv .2) in
-    let x = hears (l .inv .0) (b .0) (c .before .hear-sent2 .ensures) in
-    let y = hears (x .place) (b .1) (c .hear-sent3 .ensures) in
-    asks (y .place) (b .2)
-
-hear-sent-requires-5 : tie.Need-hear-sent-requires-5 Inv-loop μ-loop Inv-loop2 μ-loop2
-hear-sent-requires-5 c κs =
-    let l = c .before .before .before .before .loop in
-    let b = there (l .i) (c .before .before .before .before .before .if2 .last) (c .before .before .before .before .before .before .before .before .before .before .before .before .args .n) (c .before .before .before .loop-test .taken) (l .inv .2) in
-    let x = hears (l .inv .0) (b .0) (c .before .before .hear-sent2 .ensures) in
-    let y = hears (x .place) (b .1) (c .before .hear-sent3 .ensures) in
-    let z = hears (y .place) (b .2) (c .hear-sent4 .ensures) in
-    asks (z .place) (b .3)
+hear-four-requires : tie.Need-hear-four-requires Inv-loop μ-loop Inv-loop2 μ-loop2
+hear-four-requires c κs = let l = c .before .loop in asks-four (l .inv .0) (c .loop-test .taken) (l .inv .2)
 
 with-requires-2 : tie.Need-with-requires-2 Inv-loop μ-loop Inv-loop2 μ-loop2
 with-requires-2 c κs =
-    let d = none-dealt (c .before .before .before .before .before .loop .inv .1) in
+    let d = none-dealt (c .before .before .loop .inv .1) in
     (omega arith, omega arith, omega arith, omega arith, omega arith)
 
 add-i : tie.Need-add-i Inv-loop μ-loop Inv-loop2 μ-loop2
-add-i c = let l = c .before .before .before .before .before .before .loop in omega (arith, c .before .before .before .before .before .loop-test .taken, l .inv .0 .few, l .inv .2)
+add-i c = let l = c .before .before .before .loop in omega (arith, c .before .before .loop-test .taken, l .inv .0 .few, l .inv .2)
 
 loop-less : tie.Need-loop-less Inv-loop μ-loop Inv-loop2 μ-loop2
-loop-less c = omega arith
+loop-less c =
+    let l = c .before .before .before .loop in
+    let n = c .before .before .before .before .before .before .before .before .before .before .before .args .n in
+    there (l .i) (c .before .before .before .before .if2 .last) n (c .before .before .loop-test .taken) (l .inv .2) .4
 
 loop-again : tie.Need-loop-again Inv-loop μ-loop Inv-loop2 μ-loop2
 loop-again c =
-    let l = c .before .before .before .before .before .before .loop in
-    let u = c .before .before .before .before .before .before .before .before .before .before .before .before .before .before in
-    let a = u .args in
+    let l = c .before .before .before .loop in
+    let a = c .before .before .before .before .before .before .before .before .before .before .before .args in
     let v = now (a .values) in
     let all = heardOf (signedBy false (a .m)) (a .n) (a .start) v in
-    let h = c .before .hear-sent5 in
-    let last = c .before .before .before .before .before .before .before .if2 .last in
-    let b = there (l .i) last (a .n) (c .before .before .before .before .before .loop-test .taken) (l .inv .2) in
-    let x = hears (l .inv .0) (b .0) (c .before .before .before .before .hear-sent2 .ensures) in
-    let y = hears (x .place) (b .1) (c .before .before .before .hear-sent3 .ensures) in
-    let z = hears (y .place) (b .2) (c .before .before .hear-sent4 .ensures) in
-    let t = hears (z .place) (b .3) (h .ensures) in
+    let h = c .before .hear-four in
+    let last = c .before .before .before .before .if2 .last in
+    let b = there (l .i) last (a .n) (c .before .before .loop-test .taken) (l .inv .2) in
+    let x = hears (l .inv .0) (b .0) (h .ensures .first) in
+    let y = hears (x .place) (b .1) (h .ensures .second) in
+    let z = hears (y .place) (b .2) (h .ensures .third) in
+    let t = hears (z .place) (b .3) (h .ensures .fourth) in
     let r = c .with2 .ensures in
     let da = deal-a (l .inv .1) (x .bits) (x .voice) (l .inv .1 .some) (r .0) in
     let db = deal-b da (y .bits) (y .voice) (omega arith) (r .1) in
@@ -207,8 +185,8 @@ loop2-holds c =
     let l = c .before .before .loop in
     (l .inv .0, rw (c .whole .ensures) (l .inv .1 .whole))
 
-hear-sent-requires-6 : tie.Need-hear-sent-requires-6 Inv-loop μ-loop Inv-loop2 μ-loop2
-hear-sent-requires-6 c κs =
+hear-sent-requires-2 : tie.Need-hear-sent-requires-2 Inv-loop μ-loop Inv-loop2 μ-loop2
+hear-sent-requires-2 c κs =
     let p = c .before .loop2 .inv .0 in
     asks p (omega arith)
 
@@ -224,7 +202,7 @@ loop2-less c = omega arith
 loop2-again : tie.Need-loop2-again Inv-loop μ-loop Inv-loop2 μ-loop2
 loop2-again c =
     let l = c .before .before .before .loop2 in
-    turn (l .inv) (omega arith) (c .before .hear-sent6 .ensures) (c .with3 .ensures)
+    turn (l .inv) (omega arith) (c .before .hear-sent2 .ensures) (c .with3 .ensures)
 
 returns-2 : tie.Need-returns-2 Inv-loop μ-loop Inv-loop2 μ-loop2
 returns-2 c = done (c .before .loop2 .inv) (omega arith)
@@ -247,17 +225,14 @@ link-sent-spec =
     new-requires-3
     sub-last
     loop-holds
-    hear-sent-requires-2
-    hear-sent-requires-3
-    hear-sent-requires-4
-    hear-sent-requires-5
+    hear-four-requires
     with-requires-2
     add-i
     loop-less
     loop-again
     whole-requires
     loop2-holds
-    hear-sent-requires-6
+    hear-sent-requires-2
     with-requires-3
     add-i-2
     loop2-less
