@@ -18,8 +18,8 @@ use sheet::count;
 use sheet::sizes::frames;
 use sheet::wide;
 
-// The bits that channel i sends: the frame's segment is every F-th of its bits, from the frame's column on. With F = 1 the numbers are
-// constant, so that the compiler takes many bits a turn.
+// The bits that channel i sends: the frame's segment is every F-th of its bits, from the frame's column on. With F = 1 there is one column, and
+// nothing is worked out for it.
 fn send(
     contents: &[u8],
     fields: Sheet,

@@ -2,19 +2,23 @@
 use mathlib.Core.Path.{_≡_, refl, sym, ap, _∙_, subst}
 use mathlib.Core.Bool.{Bool, true, false}
 use mathlib.Core.List.{List, [], _∷_, _++_, map}
-use Prim.Native.Nat.{ℕ, _+_, _*_, _-_, _≤_, _<_}
+use Prim.Native.Nat.{ℕ, zero, suc, _+_, _*_, _-_, _≤_, _<_}
+use native.Mathlib.Nat.{suc-mul}
 use native.Mathlib.Omega.{arith}
 use lib.ListN.{length, getD, set, take, drop, replicate}
+use lib.Seq.{set-getD}
 use Rattle.laws.proofs.PartLaws.{replicate-map}
 use Rattle.laws.proofs.TestLaws.{split}
 use Rattle.laws.proofs.TodoLaws.{Todo, todo-all, todo-turn, todo-over, todo-put, todo-room}
 use Rattle.matching.specs.Signed.{signedBy}
 use Rattle.pattern.specs.Pattern.{walked, matched, asIs, Rates, Segment}
 use Rattle.pattern.specs.Every.{every, Strided}
+use Rattle.pattern.specs.Run.{Copied, Ran}
 use Rattle.pattern.proofs.WalkLaws.{walked-keep, walked-drop, walked-more, walked-map, walked-of}
 use Rattle.pattern.proofs.MatchedLaws.{length-matched}
 use Rattle.pattern.proofs.SegmentLaws.{matched-by}
 use Rattle.pattern.proofs.EveryLaws.{every-length, every-within, every-turn, every-next, every-past}
+use Rattle.pattern.proofs.RunLaws.{write-before}
 
 -- from bit i on
 abbrev pub left : Bool → ℕ → ℕ → ℕ → ℕ → List ℕ → ℕ → ℕ → List ℕ
@@ -88,6 +92,48 @@ module _ {less : Bool} {m n from step : ℕ} {src : List ℕ} {start : ℕ} {old
 
     pub kept-room : 2 * m < e → k < length dst
     kept-room lt = todo-room (s .todo) (rw (kept lt) (omega arith))
+
+-- a run of bits side by side: each of them is kept, and what was put behind k does no harm
+module _ {less : Bool} {m n from step : ℕ} {src : List ℕ} {start : ℕ} {old dst : List ℕ} (e k j c : ℕ) where
+  sending-next : Sending less m n from step src start old dst (e - c * (2 * m)) (k + c) (j + c) → Strided step n (length src) → step ≡ 1
+      → suc c * (2 * m) < e → j + c < length src → getD dst (k + c) 0 ≡ getD src (j + c) 0
+      → Sending less m n from step src start old dst (e - suc c * (2 * m)) (k + suc c) (j + suc c)
+  sending-next s w q h b t =
+      let f = suc-mul c (2 * m) in
+      let qe : e - suc c * (2 * m) ≡ e - c * (2 * m) - 2 * m = omega arith in
+      let qk : k + suc c ≡ k + c + 1 = omega arith in
+      let qj : j + suc c ≡ j + c + step = omega arith in
+      rw (qe, qk, qj) (rw (← t, set-getD dst (k + c) 0) at (sending-keep s w b (omega arith)))
+
+module _ {less : Bool} {m n from step : ℕ} {src : List ℕ} {start : ℕ} {old dst : List ℕ} {e k j : ℕ} where
+  sending-put : {dst′ : List ℕ} {c : ℕ} → Sending less m n from step src start old dst e k j → Copied src dst dst′ j k c
+      → Sending less m n from step src start old dst′ e k j
+  sending-put s c =
+      let t = s .todo in
+      let q = write-before c (omega (arith, t .ends, t .long)) in
+      record { bit = s .bit; index = s .index; above = s .above; todo = record { same = rw q (t .same); ends = t .ends; long = c .long ∙ t .long } }
+
+  sending-none : Sending less m n from step src start old dst e k j → Sending less m n from step src start old dst (e - 0 * (2 * m)) (k + 0) (j + 0)
+  sending-none s =
+      let qe : e - 0 * (2 * m) ≡ e = omega arith in
+      let qk : k + 0 ≡ k = omega arith in
+      let qj : j + 0 ≡ j = omega arith in
+      rw (qe, qk, qj) s
+
+  sending-keeps : (c : ℕ) → Sending less m n from step src start old dst e k j → Strided step n (length src) → step ≡ 1 → c * (2 * m) < e
+      → ((i : ℕ) → i < c → j + i < length src) → ((i : ℕ) → i < c → getD dst (k + i) 0 ≡ getD src (j + i) 0)
+      → Sending less m n from step src start old dst (e - c * (2 * m)) (k + c) (j + c)
+  sending-keeps zero s w q h b t = sending-none s
+  sending-keeps (suc c) s w q h b t =
+      let g = sending-keeps c s w q (omega (arith, suc-mul c (2 * m))) (λ i l. b i (omega arith)) (λ i l. t i (omega arith)) in
+      sending-next e k j c g w q h (b c (omega arith)) (t c (omega arith))
+
+pub sending-run : {less : Bool} {m n from step : ℕ} {src : List ℕ} {start : ℕ} {old dst dst′ : List ℕ} {e k j e′ k′ j′ : ℕ}
+    → Sending less m n from step src start old dst e k j → Strided step n (length src) → step ≡ 1 → Ran (2 * m) src dst dst′ e k j e′ k′ j′
+    → Sending less m n from step src start old dst′ e′ k′ j′
+sending-run {m = m} {e = e} {e′ = e′} s w one r =
+    let q : e′ ≡ e - r .bits * (2 * m) = omega (arith, r .falls) in
+    rw (q, r .puts, r .reads) (sending-keeps (r .bits) (sending-put s (r .copied)) w one (omega (arith, r .falls, r .above)) (r .within) (r .copied .there))
 
 -- a bit that is dropped
 pub sending-drop : {m n from step : ℕ} {src : List ℕ} {start : ℕ} {old dst : List ℕ} {e k j : ℕ} (s : Sending true m n from step src start old dst e k j)

@@ -8,6 +8,7 @@ pub mod TextLaws
 pub mod SharedLaws
 pub mod SegmentLaws
 pub mod EveryLaws
+pub mod RunLaws
 pub mod LeftLaws
 pub mod Example
 pub mod StoodLaws

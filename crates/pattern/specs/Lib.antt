@@ -1,4 +1,5 @@
 pub mod Text
 pub mod Pattern
 pub mod Every
+pub mod Run
 pub mod Closed

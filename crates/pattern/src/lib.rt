@@ -10,6 +10,10 @@ ghost use Rattle.pattern.specs.Pattern.{matched, asIs, Segment};
 ghost use Rattle.pattern.specs.Every.{every, Strided};
 
 pub mod closed;
+pub mod runs;
+
+use crate::runs::run_of;
+use crate::runs::send_run;
 
 // Once the contents are read, whatever is still to be sent is a filler.
 fn fill(dst: &mut [u8], from: usize)
@@ -24,7 +28,7 @@ fn fill(dst: &mut [u8], from: usize)
 }
 
 // d = 0: the bits as they are.
-fn copy(src: &[u8], n: usize, from: usize, step: usize, dst: &mut [u8])
+fn copy_by(src: &[u8], n: usize, from: usize, step: usize, dst: &mut [u8])
     requires { ⌜ Strided step n (length (now src)) × (length (now dst) ≡ n) ⌝ }
     ensures { λ _. ⌜ now (dst .exit) ≡ every 0 from step n (now (src .entry)) ⌝ }
 {
@@ -38,6 +42,18 @@ fn copy(src: &[u8], n: usize, from: usize, step: usize, dst: &mut [u8])
     fill(dst, k);
 }
 
+// Bits side by side are told apart, so that the compiler takes many of them a turn.
+fn copy(src: &[u8], n: usize, from: usize, step: usize, dst: &mut [u8])
+    requires { ⌜ Strided step n (length (now src)) × (length (now dst) ≡ n) ⌝ }
+    ensures { λ _. ⌜ now (dst .exit) ≡ every 0 from step n (now (src .entry)) ⌝ }
+{
+    if step == 1 {
+        copy_by(src, n, from, 1, dst);
+    } else {
+        copy_by(src, n, from, step, dst);
+    }
+}
+
 // d < 0, m being |d|: e falls by 2m with each bit, and where it would not stay above 0 the bit is dropped and e grows by 2N.
 fn puncture(src: &[u8], n: usize, from: usize, step: usize, dst: &mut [u8], start: usize, m: usize)
     requires { ⌜ Segment true m n (length (now dst)) start × Strided step n (length (now src)) × (0 < m) ⌝ }
@@ -45,6 +61,7 @@ fn puncture(src: &[u8], n: usize, from: usize, step: usize, dst: &mut [u8], star
 {
     let p = 2 * n;
     let q = 2 * m;
+    let run = run_of(p, q);
     let mut e = start;
     let mut k: usize = 0;
     let mut j = from;
@@ -57,6 +74,12 @@ fn puncture(src: &[u8], n: usize, from: usize, step: usize, dst: &mut [u8], star
             e = e + p - q;
         }
         j += step;
+        if step == 1 {
+            let t = send_run(src, j, dst, k, e, q, run);
+            e = t.e;
+            k = t.k;
+            j = t.j;
+        }
     }
     fill(dst, k);
 }
@@ -68,6 +91,7 @@ fn repeat(src: &[u8], n: usize, from: usize, step: usize, dst: &mut [u8], start:
 {
     let p = 2 * n;
     let q = 2 * m;
+    let run = run_of(p, q);
     let mut e = start;
     let mut k: usize = 0;
     let mut j = from;
@@ -82,6 +106,12 @@ fn repeat(src: &[u8], n: usize, from: usize, step: usize, dst: &mut [u8], start:
         k += 1;
         e -= q;
         j += step;
+        if step == 1 {
+            let t = send_run(src, j, dst, k, e, q, run);
+            e = t.e;
+            k = t.k;
+            j = t.j;
+        }
     }
     fill(dst, k);
 }
