@@ -8,14 +8,14 @@ use native.Mathlib.Omega.{arith}
 use lib.ListN.{length, getD, set, take, drop}
 use lib.Seq.{set-getD}
 use lib.Ieee.{Float, nan}
+use Rattle.laws.proofs.WrittenLaws.{write-before}
 use Rattle.laws.proofs.TodoLaws.{Todo, todo-all, todo-turn, todo-put, todo-done}
 use Rattle.matching.specs.Signed.{signedBy}
 use Rattle.pattern.specs.Pattern.{copiesAt, after, sharedFrom, Segment}
 use Rattle.pattern.proofs.SegmentLaws.{stands}
 use Rattle.joining.specs.declared.Heard.{Heard}
-use Rattle.joining.specs.Joining.{rawOf, clipped, joinOf, valueOf, homeOf, Written}
+use Rattle.joining.specs.Joining.{rawOf, clipped, joinOf, valueOf, homeOf, Clips}
 use Rattle.joining.proofs.ClipLaws.{clip-heard}
-use Rattle.joining.proofs.WrittenLaws.{write-before}
 use Rattle.joining.proofs.HomeLaws.{length-home, heard-by}
 use Rattle.joining.proofs.PlaceLaws.{Place, left, once-heard, place-start, place-room, place-next, left-next}
 
@@ -57,7 +57,7 @@ module _ {less : Bool} {m start : ℕ} {vs old list : List Float} {e k i : ℕ} 
   unfolding valueOf
   fill-once b d q = fill-turn b (once-heard less (2 * length old) (2 * m) e k vs d (place-room (f .place) b)) refl q
 
-  fill-over : {list′ : List Float} {n : ℕ} → Written vs list list′ k i n → Filling less m start vs old list′ e k i
+  fill-over : {list′ : List Float} {n : ℕ} → Clips vs list list′ k i n → Filling less m start vs old list′ e k i
   fill-over w =
       let t = f .todo in
       let q = write-before w (omega (arith, f .place .upto, t .long)) in
@@ -65,7 +65,7 @@ module _ {less : Bool} {m start : ℕ} {vs old list : List Float} {e k i : ℕ} 
 
 -- n bits of one copy each, for e stands above n falls
 pub fill-run : {less : Bool} {m start : ℕ} {vs old list list′ : List Float} {e k i n : ℕ} → Filling less m start vs old list e k i
-    → Written vs list list′ k i n → n * (2 * m) < e → i + n ≤ length old → Filling less m start vs old list′ (e - n * (2 * m)) (k + n) (i + n)
+    → Clips vs list list′ k i n → n * (2 * m) < e → i + n ≤ length old → Filling less m start vs old list′ (e - n * (2 * m)) (k + n) (i + n)
 fill-run {less} {m} {start} {vs} {old} {list′ = list′} {e = e} {k = k} {i = i} {n = n} f w h b = go n (fill-over f w) (w .there) h b
   where
     go : (n : ℕ) → Filling less m start vs old list′ e k i → ((j : ℕ) → j < n → getD list′ (i + j) nan ≡ clipped (getD vs (k + j) nan))

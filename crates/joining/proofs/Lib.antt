@@ -3,7 +3,6 @@ pub mod MadeLaws
 pub mod JoinLaws
 pub mod HomeLaws
 pub mod PlaceLaws
-pub mod WrittenLaws
 pub mod FillLaws
 pub mod LinkLaws
 pub mod HeardLaws

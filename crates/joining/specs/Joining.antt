@@ -2,11 +2,12 @@
 use mathlib.Core.Path.{_≡_}
 use mathlib.Core.Bool.{true, false, cond}
 use mathlib.Core.List.{List, [], _∷_, foldl, map}
-use Prim.Native.Nat.{ℕ, _+_, _<_}
+use Prim.Native.Nat.{ℕ, _+_}
 use lib.Dec.{T}
 use lib.IntN.{ℤ, pos}
 use lib.ListN.{length, getD, take, drop}
 use lib.Ieee.{Float, nan, fin, binary32, add, le, fits}
+use Rattle.laws.specs.Written.{Written}
 use Rattle.pattern.specs.Pattern.{copiesAt, after, shared}
 use Rattle.joining.specs.declared.Heard.{Heard}
 use Rattle.joining.specs.declared.Heard.the-variants.{Nothing, Once, Joined}
@@ -64,11 +65,9 @@ heardOf d N e vs = map joinOf (shared d N e vs)
 unfoldable pub homeOf : ℤ → ℕ → ℕ → List Float → List Float
 homeOf d N e vs = map valueOf (heardOf d N e vs)
 
--- the n places from i on have the values from k on, clipped, and those before have what they had; those behind have anything
-pub record Written (vs old list : List Float) (k i n : ℕ) : Type 0 where
-  pub long : length list ≡ length old
-  pub before : (j : ℕ) → j < i → getD list j nan ≡ getD old j nan
-  pub there : (j : ℕ) → j < n → getD list (i + j) nan ≡ clipped (getD vs (k + j) nan)
+-- the values from k on, clipped, are written to the n places from i on
+abbrev pub Clips : List Float → List Float → List Float → ℕ → ℕ → ℕ → Type 0
+Clips vs old list k i n = Written nan (λ j. clipped (getD vs (k + j) nan)) old list i n
 
 -- step 6's way back at a bit that was sent, by p = 2N, q = 2d and e: h was heard of it, whose copies begin at k, those of the next begin at k′,
 -- and e′ is e as that bit finds it

@@ -5,10 +5,11 @@ ghost use Prim.Native.Nat.{_+_, _*_, _^_, _≤_, _<_};
 ghost use lib.ListN.{length};
 ghost use Rattle.matching.specs.Signed.{signedBy};
 ghost use Rattle.pattern.specs.Pattern.{Segment};
-ghost use Rattle.joining.specs.Joining.{clipped, valueOf, homeOf, Written};
+ghost use Rattle.joining.specs.Joining.{clipped, valueOf, homeOf, Clips};
 use crate::Heard;
 use crate::clipping::clip;
 use crate::walking::hear_next;
+use pattern::runs::run_of;
 
 // The value that a bit gets of what was heard of it.
 fn value(h: Heard) -> f32
@@ -36,7 +37,7 @@ fn copy_values(values: &[f32], segment: &mut [f32])
 // Four values. All are read before the first is written, so that the compiler takes the four at once.
 fn copy_four(values: &[f32], k: usize, segment: &mut [f32], i: usize)
     requires { ⌜ (k + 3 < length (now values)) × (i + 3 < length (now segment)) ⌝ }
-    ensures { λ _. ⌜ Written (now (values .entry)) (now (segment .entry)) (now (segment .exit)) k i 4 ⌝ }
+    ensures { λ _. ⌜ Clips (now (values .entry)) (now (segment .entry)) (now (segment .exit)) k i 4 ⌝ }
 {
     let a = clip(values[k]);
     let b = clip(values[k + 1]);
@@ -51,31 +52,13 @@ fn copy_four(values: &[f32], k: usize, segment: &mut [f32], i: usize)
 // So many values, by fours. The up to three that come too much are written over by what follows.
 fn copy_run(values: &[f32], k: usize, segment: &mut [f32], i: usize, count: usize)
     requires { ⌜ (k + count + 3 ≤ length (now values)) × (i + count + 3 ≤ length (now segment)) ⌝ }
-    ensures { λ _. ⌜ Written (now (values .entry)) (now (segment .entry)) (now (segment .exit)) k i count ⌝ }
+    ensures { λ _. ⌜ Clips (now (values .entry)) (now (segment .entry)) (now (segment .exit)) k i count ⌝ }
 {
     let mut done: usize = 0;
     while done < count {
         copy_four(values, k + done, segment, i + done);
         done += 4;
     }
-}
-
-// How often q fits into p, less one, up to 16: so many bits have one copy each after one that is dropped or repeated. Counted up, since a call
-// is to divide seldom. Another number would only be slower.
-fn run_of(p: usize, q: usize) -> usize
-    requires { ⌜ (2 * q < 2 ^ 64) × (p + q < 2 ^ 64) ⌝ }
-    ensures { λ r. ⌜ r ≤ 16 ⌝ }
-{
-    let mut run: usize = 0;
-    let mut fall = 2 * q;
-    while run < 16 {
-        if p < fall {
-            return run;
-        }
-        run += 1;
-        fall += q;
-    }
-    run
 }
 
 // d is not 0: each bit gets the sum of its next copies. After one that is dropped or repeated comes a run of bits with one copy each, copied by

@@ -15,3 +15,4 @@ pub mod AboveLaws
 pub mod PasteLaws
 pub mod TrailingLaws
 pub mod RoundLaws
+pub mod WrittenLaws

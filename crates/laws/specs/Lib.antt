@@ -8,3 +8,4 @@ pub mod FirstFail
 pub mod Above
 pub mod Divisors
 pub mod Rounded
+pub mod Written

@@ -18,7 +18,7 @@ use Rattle.pattern.proofs.WalkLaws.{walked-keep, walked-drop, walked-mo
 use Rattle.pattern.proofs.MatchedLaws.{length-matched}
 use Rattle.pattern.proofs.SegmentLaws.{matched-by}
 use Rattle.pattern.proofs.EveryLaws.{every-length, every-within, every-turn, every-next, every-past}
-use Rattle.pattern.proofs.RunLaws.{write-before}
+use Rattle.laws.proofs.WrittenLaws.{write-before}
 
 -- from bit i on
 abbrev pub left : Bool → ℕ → ℕ → ℕ → ℕ → List ℕ → ℕ → ℕ → List ℕ

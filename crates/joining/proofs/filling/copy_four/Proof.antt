@@ -6,17 +6,17 @@ use native.Mathlib.Omega.{arith}
 use borrow.Author.Needs.{needs}
 use lib.ListN.{length, getD, set, length-set}
 use lib.Ieee.{Float, nan}
-use Rattle.joining.specs.Joining.{clipped, Written}
-use Rattle.joining.proofs.WrittenLaws.{write-none, write-one}
+use Rattle.joining.specs.Joining.{clipped, Clips}
+use Rattle.laws.proofs.WrittenLaws.{write-none, write-one}
 use Rattle.joining.proofs.filling.copy_four.Statement.{statement}
 use Rattle.joining.proofs.filling.copy_four.Tie as tie
 
 four : (vs l : List Float) (k i : ℕ) {a b c d : Float} → i + 3 < length l → a ≡ clipped (getD vs k nan) → b ≡ clipped (getD vs (k + 1) nan)
-    → c ≡ clipped (getD vs (k + 2) nan) → d ≡ clipped (getD vs (k + 3) nan) → Written vs l (set (set (set (set l i a) (i + 1) b) (i + 2) c) (i + 3) d) k i 4
+    → c ≡ clipped (getD vs (k + 2) nan) → d ≡ clipped (getD vs (k + 3) nan) → Clips vs l (set (set (set (set l i a) (i + 1) b) (i + 2) c) (i + 3) d) k i 4
 four vs l k i {a} h qa qb qc qd =
     let k0 : k + 0 ≡ k = omega arith in
     let i0 : i + 0 ≡ i = omega arith in
-    let w = write-one (write-none vs l k i) {x = a} (omega arith) (rw k0 qa) in
+    let w = write-one (write-none nan (λ j. clipped (getD vs (k + j) nan)) l i) {x = a} (omega arith) (rw k0 qa) in
     write-one (write-one (write-one (rw i0 at w) (omega arith) qb) (omega arith) qc) (omega arith) qd
 
 mul-clip : tie.Need-mul-clip

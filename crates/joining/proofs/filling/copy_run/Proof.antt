@@ -1,19 +1,22 @@
 use denote.Ref.{now}
-use Prim.Native.Nat.{_+_, _-_, _≤_}
+use mathlib.Core.Path.{_≡_, ap}
+use Prim.Native.Nat.{ℕ, _+_, _-_, _≤_}
 use native.Mathlib.Omega.{arith}
-use Rattle.joining.specs.Joining.{Written}
-use Rattle.joining.proofs.WrittenLaws.{write-none, write-on, write-part}
+use lib.ListN.{getD}
+use lib.Ieee.{nan}
+use Rattle.joining.specs.Joining.{clipped, Clips}
+use Rattle.laws.proofs.WrittenLaws.{write-none, write-on, write-part}
 use Rattle.joining.proofs.filling.copy_run.Statement.{statement}
 use Rattle.joining.proofs.filling.copy_run.Tie as tie
 
 abbrev Inv-loop : tie.InvT-loop
-Inv-loop values k segment₀ i count done₀ segment done = (done ≤ count + 3) × Written values segment₀ segment k i done
+Inv-loop values k segment₀ i count done₀ segment done = (done ≤ count + 3) × Clips values segment₀ segment k i done
 
 abbrev μ-loop : tie.MeasureT-loop
 μ-loop values k segment₀ i count done₀ segment done = count + 3 - done
 
 loop-holds : tie.Need-loop-holds Inv-loop μ-loop
-loop-holds c = let a = c .before .before .args in (omega arith, write-none (now (a .values)) (now (a .segment)) (a .k) (a .i))
+loop-holds c = let a = c .before .before .args in (omega arith, write-none nan _ (now (a .segment)) (a .i))
 
 add-copy-four : tie.Need-add-copy-four Inv-loop μ-loop
 add-copy-four c = omega arith
@@ -31,7 +34,11 @@ loop-less : tie.Need-loop-less Inv-loop μ-loop
 loop-less c = omega arith
 
 loop-again : tie.Need-loop-again Inv-loop μ-loop
-loop-again c = (omega arith, write-on (c .before .before .before .before .before .loop .inv .1) (c .before .before .copy-four .ensures))
+loop-again c =
+    let l = c .before .before .before .before .before .loop in
+    let a = c .before .before .before .before .before .before .before .before .args in
+    let q : (j : ℕ) → a .k + l .done + j ≡ a .k + (l .done + j) = λ j. omega arith in
+    (omega arith, write-on (l .inv .1) (c .before .before .copy-four .ensures) (λ j. ap (λ (x : ℕ). clipped (getD (now (a .values)) x nan)) (q j)))
 
 same-length : tie.Need-same-length Inv-loop μ-loop
 same-length c = c .before .loop .inv .1 .long

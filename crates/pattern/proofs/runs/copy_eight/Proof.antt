@@ -6,7 +6,7 @@ use native.Mathlib.Omega.{arith}
 use borrow.Author.Needs.{needs}
 use lib.ListN.{length, getD, set, length-set}
 use Rattle.pattern.specs.Run.{Copied}
-use Rattle.pattern.proofs.RunLaws.{write-none, write-one}
+use Rattle.laws.proofs.WrittenLaws.{write-none, write-one}
 use Rattle.pattern.proofs.runs.copy_eight.Statement.{statement}
 use Rattle.pattern.proofs.runs.copy_eight.Tie as tie
 

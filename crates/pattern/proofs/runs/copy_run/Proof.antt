@@ -4,7 +4,7 @@ use Prim.Native.Nat.{ℕ, _+_, _-_, _≤_}
 use native.Mathlib.Omega.{arith}
 use lib.ListN.{length, getD}
 use Rattle.pattern.specs.Run.{Copied}
-use Rattle.pattern.proofs.RunLaws.{write-none, write-on, write-part}
+use Rattle.laws.proofs.WrittenLaws.{write-none, write-on, write-part}
 use Rattle.pattern.proofs.runs.copy_run.Statement.{statement}
 use Rattle.pattern.proofs.runs.copy_run.Tie as tie
 
