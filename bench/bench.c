@@ -271,7 +271,8 @@ static void make_table(void)
     }
 }
 
-/* What no way of building can be faster than: one load and one store a place, out of bits that have a 0 in front of them. */
+/* What no way of building that goes bit by bit can be faster than: one load and one store a place, out of bits that have a 0 in front
+   of them. */
 static void look_up(unsigned long times)
 {
     static uint8_t led[MOST + 1];
