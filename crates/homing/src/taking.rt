@@ -25,26 +25,21 @@ use sheet::count;
 use sheet::sizes::frames;
 use sheet::wide;
 
-// The joined values of channel i's segment, out of its values as they were sent.
+// The joined values of channel i's segment of n, out of its values as they were sent. Of n, and not of the segment's length, the compiler knows that 16 bits
+// hold it, and divides in fewer.
 fn take_channel(
     values: &[f32],
     fields: Sheet,
     i: usize,
+    n: u64,
     tti: u16,
     number: FrameNumber,
     segment: &mut [f32],
 )
-    requires { ⌜ Accepted fields × (i < fields .channels) × (tti ≡ ttiOf fields i) × (length (now values) ≡ shareOf fields i) × (length (now segment) ≡ sizeOf fields i) ⌝ }
+    requires { ⌜ Accepted fields × (i < fields .channels) × (n ≡ sizeOf fields i) × (tti ≡ ttiOf fields i) × (length (now values) ≡ shareOf fields i) × (length (now segment) ≡ sizeOf fields i) ⌝ }
     ensures { λ _. ⌜ now (segment .exit) ≡ homeIn fields (number .0) i (now (values .entry)) ⌝ }
 {
-    let w = walk_of(
-        fields,
-        i,
-        segment.len() as u64,
-        values.len() as u64,
-        tti,
-        number,
-    );
+    let w = walk_of(fields, i, n, values.len() as u64, tti, number);
     join_segment(values, segment, w.e, w.less, w.m);
 }
 
@@ -112,7 +107,15 @@ pub fn take_segments(values: &[f32], opened: Opened, number: FrameNumber, joined
         let to = at + size;
         let a = cuts[i] as usize;
         let z = cuts[i + 1] as usize;
-        take_channel(&values[a..z], fields, i, tti, number, &mut joined[at..to]);
+        take_channel(
+            &values[a..z],
+            fields,
+            i,
+            size as u64,
+            tti,
+            number,
+            &mut joined[at..to],
+        );
         base += f as usize * size;
         i += 1;
     }

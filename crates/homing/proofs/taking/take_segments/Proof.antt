@@ -160,6 +160,7 @@ take-channel-requires c κs =
     let e : a + getD (o k .sizes) (i k) 0 - a ≡ sizeOf (o k .fields) (i k) = omega (arith, size k) in (
       opens k .accepted,
       inside k,
+      size k,
       refl,
       part-length (start k .args .values .now) _ _ (up k) (last k) ∙ cut-share (o k) (opens k) (i k) (inside k),
       part-length (l .joined) a (a + getD (o k .sizes) (i k) 0) (omega arith) (fits k) ∙ e,
@@ -188,11 +189,11 @@ loop-again c =
     let b = a + getD (o k .sizes) (i k) 0 in
     let vs = start k .args .values .now in
     let n = start k .args .number .0 in
-    let m = y .kept .1 .1 .1 .1 .1 .0 ∙ part-length (l .joined) a b (omega arith) (fits k) in
+    let m = y .kept .1 .1 .1 .1 .1 .1 .0 ∙ part-length (l .joined) a b (omega arith) (fits k) in
     let from = k .segment-from .ensures .0 ∙ ap₂ (λ (f s : ℕ). n % f * s) (k .before .frames .ensures .0) (size k) in (
       omega arith,
       sum-more (equalisedOf sh) (i k) (l .inv .1) (whole k),
-      same-len-mid a (b - a) (l .joined) (y .last .1 .1 .1 .1 .1 .0) (y .kept .1 .1 .1 .1 .1 .0) ∙ l .inv .2,
+      same-len-mid a (b - a) (l .joined) (y .last .1 .1 .1 .1 .1 .1 .0) (y .kept .1 .1 .1 .1 .1 .1 .0) ∙ l .inv .2,
       taken-next (o k) (opens k) n vs (start k .args .joined .now) (l .joined) (i k) (l .base) (k .segment-from .result) (inside k) (l .inv .3) (l .inv .1) from (size k) (fits k) m
           (y .ensures ∙ ap (homeIn sh n (i k)) (part-at (o k) (opens k) (i k) (inside k) vs)),
     )
