@@ -6,6 +6,7 @@ usage: python3 tools/port_names.py            at the top of the repository, once
 
 What turns: definitions, fields and lemmas that specs/ and proofs/*.antt declare, wherever an antt file, a clause or a comment of a .rt file has them
 as a whole word. Names of src/ stay, and so do the names of goals that a function's proof answers. Of two names that would fall together neither turns.
+A name that a file imports from a library stays in that file.
 """
 
 import glob
@@ -82,8 +83,13 @@ def main(argv):
     if "--list" in argv:
         print("\n".join(f"{a}\t{b}" for a, b in table.items()))
         return 0
+    own_crates = {p.split("/")[1] for p in contents}
     for p, t in contents.items():
         own = set(DECLARED.findall(t)) if p.endswith("/Proof.antt") else set()
+        for path, names in re.findall(r"\buse ([^\s;{]+)\.\{([^}]*)\}", t):
+            steps = path.split(".")
+            if steps[0] != "Rattle" or steps[1] not in own_crates:
+                own |= {w for n in names.split(",") for w in n.split()}
 
         def turn(m):
             word = m[0]

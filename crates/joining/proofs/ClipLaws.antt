@@ -12,7 +12,7 @@ use lib.IntN.{ℤ, pos}
 use lib.Ieee.{Float, nan, inf, fin, binary32, up, down, round, lt, le, fits}
 use lib.Ieee.Exact.{HasValue}
 use lib.Ieee.Back.{round_whole, whole_unique}
-use lib.Ieee.Fits.{down_pos, round_fits}
+use lib.Ieee.Fits.{down_pos, round-fits}
 use Rattle.laws.proofs.TestLaws.{split}
 use Rattle.matching.specs.Signed.{signed_by}
 use Rattle.joining.specs.declared.Heard.{Heard}
@@ -214,7 +214,7 @@ clip_round s n h =
     let r = round binary32 s n 1 in
     let few = min-le_right n bound in
     whole_unique binary32 (clipped r) (round binary32 s (min n bound) 1) s (min n bound)
-    (clip_fits r (round_fits binary32 s n 1)) (round_fits binary32 s (min n bound) 1)
+    (clip_fits r (round-fits binary32 s n 1)) (round-fits binary32 s (min n bound) 1)
     (clip_value r s n (round_whole binary32 s n h))
     (round_whole binary32 s (min n bound) (omega (arith, few)))
 

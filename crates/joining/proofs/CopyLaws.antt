@@ -8,7 +8,7 @@ use lib.IntN.{ℤ, pos, neg_ℤ}
 use lib.ListN.{length, get_or}
 use lib.Ieee.{Float, fin, binary32, round, add, of_int}
 use lib.Ieee.Back.{round_whole, whole_unique}
-use lib.Ieee.Fits.{add-fits, round_fits}
+use lib.Ieee.Fits.{add-fits, round-fits}
 use Rattle.laws.specs.Tables.{table}
 use Rattle.laws.proofs.LeastLaws.{rises}
 use Rattle.sheet.specs.Counts.{most_bits}
@@ -32,7 +32,7 @@ one_more s j h =
     let r = round binary32 s j 1 in
     let is = add_is binary32 r (one s) s j s 1 (round_whole binary32 s j (omega arith)) (refl, refl) in
     whole_unique binary32 (add binary32 r (one s)) (round binary32 s (suc j) 1) s (suc j)
-    (add-fits binary32 r (one s)) (round_fits binary32 s (suc j) 1)
+    (add-fits binary32 r (one s)) (round-fits binary32 s (suc j) 1)
     (rw (is, ← j1) (same_sum binary32 s j 1 (omega arith)))
     (round_whole binary32 s (suc j) h)
 

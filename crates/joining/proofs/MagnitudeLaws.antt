@@ -12,7 +12,7 @@ use lib.Pow.{pow-add}
 use lib.Ieee.{Float, nan, inf, fin, binary32, up, down, span, climb, size, odd, units, round, sum, add, sub, neg, lt, fits, hid, top, to_bits, of_bits}
 use lib.Ieee.Bits.{of_bits-to_bits}
 use lib.Ieee.Exact.{HasValue, round_exact}
-use lib.Ieee.Fits.{up_pos, down_pos, round_fits, neg-fits, and_l, and_r}
+use lib.Ieee.Fits.{up_pos, down_pos, round-fits, neg-fits, and_l, and_r}
 use lib.Ieee.Nearest.{div_same}
 use Rattle.joining.specs.Joining.{plus_zero}
 use Rattle.joining.specs.Linked.{magnitude_of}
@@ -59,7 +59,7 @@ same-value (fin t n d) s m e p q v =
     ∙ of_bits-to_bits binary32 (fin s m e) q
 
 own : (s : Bool) (m : ℕ) (e : ℤ) → T (fits binary32 (fin s (suc m) e)) → round binary32 s (suc m * up e) (down e) ≡ fin s (suc m) e
-own s m e t = same-value _ s (suc m) e (round_fits binary32 s (suc m * up e) (down e)) t (own_value s m e t)
+own s m e t = same-value _ s (suc m) e (round-fits binary32 s (suc m * up e) (down e)) t (own_value s m e t)
 
 -- ---- 0.0 - x
 

@@ -1,7 +1,7 @@
 -- Laws of sums and of "one of them holds".
 use mathlib.Core.Path.{◌≡◌, refl, sym, ap, ap₂, ◌∙◌}
 use mathlib.Core.Logic.{⊎_elim}
-use mathlib.Core.Bool.{Bool, true, false, true≢false, false≢true, ◌||◌, or_true}
+use mathlib.Core.Bool.{Bool, true, false, true≢false, false≢true, ◌||◌, or-true}
 use Prim.Native.Nat.{ℕ, zero, suc, ◌+◌, ◌-◌, ◌*◌, ◌≤◌, ◌<◌}
 use native.Mathlib.Nat.{zero-mul, suc-mul, add-zero, add-suc, mul-add, mul-one}
 use native.Mathlib.Numerals.{add-one}
@@ -134,7 +134,7 @@ any_same f g zero h = refl
 any_same f g (suc n) h = ap₂ ◌||◌ (any_same f g n (λ i l. h i (omega arith))) (h n (omega arith))
 
 any_hit_last : (f : ℕ → Bool) (n i : ℕ) → f i ≡ true → (i < n → any_to f n ≡ true) → Dec (i ≡ n) → i < suc n → (any_to f n || f n) ≡ true
-any_hit_last f n i h before (yes e) l = ap (λ (b : Bool). any_to f n || b) (ap f (sym e) ∙ h) ∙ or_true (any_to f n)
+any_hit_last f n i h before (yes e) l = ap (λ (b : Bool). any_to f n || b) (ap f (sym e) ∙ h) ∙ or-true (any_to f n)
 any_hit_last f n i h before (no e) l = ap (λ (b : Bool). b || f n) (before (lt_of_le-ne (omega arith) e))
 
 pub any_hit : (f : ℕ → Bool) (n i : ℕ) → i < n → f i ≡ true → any_to f n ≡ true

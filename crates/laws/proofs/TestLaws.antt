@@ -1,7 +1,7 @@
 -- Laws of tests: "one or the other holds", cases of an order, and tests that are computed.
 use mathlib.Core.Path.{◌≡◌, refl, sym, ap, ap₂, ◌∙◌}
 use mathlib.Core.Logic.{◌⊎◌, inl, inr}
-use mathlib.Core.Bool.{Bool, true, false, true≢false, false≢true, ◌&&◌, ◌||◌, or_true}
+use mathlib.Core.Bool.{Bool, true, false, true≢false, false≢true, ◌&&◌, ◌||◌, or-true}
 use Prim.Native.Nat.{ℕ, zero, suc, ◌≤◌, ◌<◌}
 use native.Mathlib.Omega.{arith}
 use native.Mathlib.Decide.{dec_le}
@@ -43,10 +43,10 @@ pub or_first : (a b c : Bool) → a ≡ true → true ≡ (a || (b || c))
 or_first a b c e = sym (ap (λ (x : Bool). x || (b || c)) e)
 
 pub or_second : (a b c : Bool) → b ≡ true → true ≡ (a || (b || c))
-or_second a b c e = sym (ap (λ (x : Bool). a || (x || c)) e ∙ or_true a)
+or_second a b c e = sym (ap (λ (x : Bool). a || (x || c)) e ∙ or-true a)
 
 pub or_third : (a b c : Bool) → c ≡ true → true ≡ (a || (b || c))
-or_third a b c e = sym (ap (λ (x : Bool). a || (b || x)) e ∙ ap (λ (x : Bool). a || x) (or_true b) ∙ or_true a)
+or_third a b c e = sym (ap (λ (x : Bool). a || (b || x)) e ∙ ap (λ (x : Bool). a || x) (or-true b) ∙ or-true a)
 
 pub or_none : (a b c : Bool) → a ≡ false → b ≡ false → c ≡ false → false ≡ (a || (b || c))
 or_none a b c ea eb ec = sym (ap₂ ◌||◌ ea (ap₂ ◌||◌ eb ec))
