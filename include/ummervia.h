@@ -72,7 +72,7 @@
 extern "C" {
 #endif
 
-#define UMV_RELEASE "5.0.3" /* of this header and its archive */
+#define UMV_RELEASE "5.0.2" /* of this header and its archive */
 
 /* The numbers a call answers, in the order in which they are asked. Each call below says which of them it can give. */
 enum umv_number {

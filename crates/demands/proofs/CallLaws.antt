@@ -60,19 +60,19 @@ use Rattle.demands.proofs.AnswerLaws.{answers, answers_in, points, points_none}
 -- ---- calls that write into a buffer
 
 -- and look at no values
-left-wrote : {A : Type 0} {ls : List Line} {ss : List Saying} → Means ls ss → apart ls ≡ true → (count : ℕ) (new old : List A) (o : Outcome A)
+left_wrote : {A : Type 0} {ls : List Line} {ss : List Saying} → Means ls ss → apart ls ≡ true → (count : ℕ) (new old : List A) (o : Outcome A)
     → o ≡ wrote (first_of ls) count new old → Answers {X = ℕ × List A} ss o.number (o.at, o.buffer) (count, new) (0, old)
-left-wrote {A = A} {ls = ls} means alone count new old o e =
+left_wrote {A = A} {ls = ls} means alone count new old o e =
     answers means alone (count, new) (0, old) (ap (λ (x : Outcome A). x.number) e)
     (ap (λ (x : Outcome A). (x.at, x.buffer)) e ∙ given_pair (first_of ls) count 0 new old)
 
 -- and look at values
 module _ {A B : Type 0} (test : A → Bool) (d : A) (Bad : A → Type 0) (bad : (x : A) → (test x ≡ false) ↔ Bad x) where
-  left-looked : {head : List Line} → Early head → (values : List A) (needed room : ℕ) {ss : List Saying} (count : ℕ) (new old : List B)
+  left_looked : {head : List Line} → Early head → (values : List A) (needed room : ℕ) {ss : List Saying} (count : ℕ) (new old : List B)
       → Means (head ++ look_lines test values needed (length old) room) ss → apart (head ++ look_lines test values needed (length old) room) ≡ true
       → (o : Outcome B) → o ≡ looked (first_of (head ++ look_lines test values needed (length old) room)) (first_fail test values) count new old
       → Answers ss o.number o.buffer new old × Points Bad d values count o.number o.at
-  left-looked early values needed room count new old means alone o e = (
+  left_looked early values needed room count new old means alone o e = (
     answers means alone new old (ap (λ (x : Outcome B). x.number) e) (ap (λ (x : Outcome B). x.buffer) e),
     points test d Bad bad early values needed (length old) room count (ap (λ (x : Outcome B). x.number) e) (ap (λ (x : Outcome B). x.at) e),
   )
@@ -88,10 +88,10 @@ sheet_length_law sh a e =
     answers (field-lines sh) refl (bytes_needed sh) 0 (ap (λ (x : Answer). x.number) e) (ap (λ (x : Answer). x.at) e)
 
 pub sheet_write_law : (sh : Sheet) (old : List ℕ) (o : Outcome ℕ) → o ≡ write_into sh old → SheetWriteCall sh old o.number (o.at, o.buffer)
-sheet_write_law sh old o e = left-wrote (write_means sh (length old)) refl (bytes_needed sh) (bytes_of sh) old o e
+sheet_write_law sh old o e = left_wrote (write_means sh (length old)) refl (bytes_needed sh) (bytes_of sh) old o e
 
 pub umv_sheet_read_law : (s old : List ℕ) (o : Outcome ℕ) → o ≡ read_into s old → UmvSheetReadCall s old o.number (o.at, o.buffer)
-umv_sheet_read_law s old o e = left-wrote (read_means s (length old)) refl row_length (flat_of (sheet_of s)) old o e
+umv_sheet_read_law s old o e = left_wrote (read_means s (length old)) refl row_length (flat_of (sheet_of s)) old o e
 
 -- a line before the others: 11 where it holds, else what they have
 module _ (row : List ℕ) where
@@ -176,17 +176,17 @@ part_of_law {A = A} width s k frame part e lies =
 module _ (s : List ℕ) (frame : ℕ) (contents old : List ℕ) (o : Outcome ℕ) where
   pub build_law : o ≡ build_into s frame contents old → BuildCall s frame contents old o.number o.at o.buffer
   build_law e =
-      left-looked is_bit 0 BadByte bad_byte (early_frame s frame) contents (encoded_all (sheet_of s)) (capacity_all (sheet_of s)) (capacity_all (sheet_of s))
+      left_looked is_bit 0 BadByte bad_byte (early_frame s frame) contents (encoded_all (sheet_of s)) (capacity_all (sheet_of s)) (capacity_all (sheet_of s))
       (bit_frame (sheet_of s) frame contents) old (build_means s frame contents (length old)) refl o e
 
   pub multiplex_law : o ≡ multiplex_into s frame contents old → MultiplexCall s frame contents old o.number o.at o.buffer
   multiplex_law e =
-      left-looked is_bit 0 BadByte bad_byte (early_frame s frame) contents (encoded_all (sheet_of s)) (capacity_all (sheet_of s)) (capacity_all (sheet_of s))
+      left_looked is_bit 0 BadByte bad_byte (early_frame s frame) contents (encoded_all (sheet_of s)) (capacity_all (sheet_of s)) (capacity_all (sheet_of s))
       (multiplexed_bits (sheet_of s) frame contents) old (build_means s frame contents (length old)) refl o e
 
 pub spread_law : (s bits old : List ℕ) (o : Outcome ℕ) → o ≡ spread_into s bits old → SpreadCall s bits old o.number o.at o.buffer
 spread_law s bits old o e =
-    left-looked is_bit 0 BadByte bad_byte (early_read s) bits (capacity_all (sheet_of s)) (capacity_all (sheet_of s)) (capacity_all (sheet_of s))
+    left_looked is_bit 0 BadByte bad_byte (early_read s) bits (capacity_all (sheet_of s)) (capacity_all (sheet_of s)) (capacity_all (sheet_of s))
     (spread (sheet_of s) bits) old (moved_means is_bit 0 BadByte bad_byte s bits (length old)) refl o e
 
 -- ---- and back
@@ -194,19 +194,19 @@ spread_law s bits old o e =
 pub gather_law : (s : List ℕ) (frame old : List Float) (o : Outcome Float) → o ≡ gather_into s frame old
     → GatherCall s frame old o.number o.at o.buffer
 gather_law s frame old o e =
-    left-looked in_range nan BadSoft bad_soft (early_read s) frame (capacity_all (sheet_of s)) (capacity_all (sheet_of s)) (capacity_all (sheet_of s))
+    left_looked in_range nan BadSoft bad_soft (early_read s) frame (capacity_all (sheet_of s)) (capacity_all (sheet_of s)) (capacity_all (sheet_of s))
     (gathered nan (sheet_of s) frame) old (moved_means in_range nan BadSoft bad_soft s frame (length old)) refl o e
 
 pub take_back_law : (s : List ℕ) (number : ℕ) (frame old : List Float) (o : Outcome Float) → o ≡ take_into s number frame old
     → TakeBackCall s number frame old o.number o.at o.buffer
 take_back_law s number frame old o e =
-    left-looked in_range nan BadSoft bad_soft (early_frame s number) frame (capacity_all (sheet_of s)) (equalised_all (sheet_of s)) (taken_count (sheet_of s))
+    left_looked in_range nan BadSoft bad_soft (early_frame s number) frame (capacity_all (sheet_of s)) (equalised_all (sheet_of s)) (taken_count (sheet_of s))
     (taken_back_of (sheet_of s) number frame old) old (take_means s number frame (length old)) refl o e
 
 pub finish_law : (s : List ℕ) (k : ℕ) (joined old : List Float) (o : Outcome Float) → o ≡ finish_into s k joined old
     → FinishCall s k joined old o.number (o.at, o.buffer)
 finish_law s k joined old o e =
-    left-wrote (finish_means s k (length joined) (length old)) refl (encoded_of (sheet_of s) (k - 1)) (finished_of (sheet_of s) (k - 1) joined) old o e
+    left_wrote (finish_means s k (length joined) (length old)) refl (encoded_of (sheet_of s) (k - 1)) (finished_of (sheet_of s) (k - 1) joined) old o e
 
 module _ (s : List ℕ) (number : ℕ) (frame : List Float) where
   listened : (missing : Bool) → Early (frame_lines s number ++ line missing 10 ∷ [])

@@ -4,7 +4,7 @@ use Prim.Native.Nat.{ℕ, zero, suc, ◌+◌, ◌-◌, ◌≤◌, ◌<◌}
 use native.Mathlib.Nat.{add-zero}
 use native.Mathlib.Omega.{arith}
 use Rattle.laws.specs.Sums.{sum_to, sum_from}
-use Rattle.laws.proofs.SumLaws.{sum_same, sum_zeros, sum-shift}
+use Rattle.laws.proofs.SumLaws.{sum_same, sum_zeros, sum_shift}
 use Rattle.demands.specs.Words.{missed, dropped_in}
 use Rattle.demands.specs.Thinned.{beyond, extra_in}
 
@@ -33,7 +33,7 @@ module _ (copies : ℕ → ℕ) where
   dropped-two m zero h a b = absurd (omega arith)
   dropped-two m (suc g) h a b =
       let f : ℕ → ℕ = λ i. missed (copies (m + i)) in
-      omega (arith, sum-shift f g, ap (λ (x : ℕ). missed (copies x)) (add-zero m), ap missed a, ap missed b)
+      omega (arith, sum_shift f g, ap (λ (x : ℕ). missed (copies x)) (add-zero m), ap missed a, ap missed b)
 
   -- and where each bit has a copy there is none
   pub dropped-none : (a L : ℕ) → ((i : ℕ) → i < L → 0 < copies (a + i)) → dropped_in copies a L ≡ 0

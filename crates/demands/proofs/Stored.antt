@@ -36,7 +36,7 @@ use Rattle.sending.specs.Building.{build_into}
 use Rattle.demands.specs.Exactly.{Exactly}
 use Rattle.demands.specs.Stored.{Release, release1, release2, release3, stored_taken, stored_spare, stored_uplink, stored_i, stored_t, stored_slot, stored_p, stored_code, stored_sheet, stored_load, stored_says, stored_most, Known, stored_channels, stored_codes, stored_slots, stored_bytes, stored_frame, stored_from, stored_index}
 use Rattle.demands.proofs.ExactLaws.{zero_too, unsaid}
-use Rattle.demands.proofs.StoredLaws.{one-subframe, stored_lines, lines_kept, stored_exactly, refused-four, runs_kept, spread-one, read_one}
+use Rattle.demands.proofs.StoredLaws.{one-subframe, stored_lines, lines_kept, stored_exactly, refused_four, runs_kept, spread-one, read_one}
 use Rattle.demands.proofs.ZeroLaws.{build_zero}
 
 -- ---- bytes in which no bit is set that was taken since
@@ -182,7 +182,7 @@ module _ (s : List ℕ) (accepted : read_number s ≡ 0) where
 
   -- a bit is set that was taken since
   pub newer_refused : (r : Release) → stored_taken r s ≢ 0 → Exactly (stored_says r s) 4
-  newer_refused r h = refused-four r s accepted (spare_taken r h)
+  newer_refused r h = refused_four r s accepted (spare_taken r h)
 
   -- as it is in a sheet with more channels than that release has
   many_taken : (r : Release) → stored_most r < (sheet_of s).channels → stored_taken r s ≢ 0

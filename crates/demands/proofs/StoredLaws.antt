@@ -104,9 +104,9 @@ stored_exactly r s spare i e =
     exactly (bytes_means s sh end spare (stored_spare r s) i (behind_means r sh)) (numbers_apart r s sh end spare) e
 
 -- bytes that are accepted now, of which bits that were spare are not 0: whatever their length and their padding were taken for
-pub refused-four : (r : Release) (s : List ℕ) → read_number s ≡ 0 → stored_spare r s ≢ 0 → Exactly (stored_says r s) 4
+pub refused_four : (r : Release) (s : List ℕ) → read_number s ≡ 0 → stored_spare r s ≢ 0 → Exactly (stored_says r s) 4
 unfolding stored_sheet
-refused-four r s accepted h =
+refused_four r s accepted h =
     let ok = readable s accepted in
     let sh = stored_sheet r s in
     let end = stored_slot r s (stored_t s) in

@@ -18,7 +18,7 @@ use Rattle.frame.specs.Frame.{spread}
 use Rattle.frame.proofs.FrameLaws.{cut_next}
 use Rattle.naming.specs.Name.{index_of}
 use Rattle.naming.proofs.Slots.{placed_at}
-use Rattle.naming.proofs.Places.{place_onto, index_inside}
+use Rattle.naming.proofs.Places.{place_onto, index-inside}
 use Rattle.homing.specs.Gather.{gathered}
 use Rattle.homing.specs.Home.{heard_in}
 use Rattle.homing.proofs.GatherLaws.{length-gathered, spread-gathered}
@@ -36,7 +36,7 @@ spread_passes sh ok test xs ys full long e h =
     ap (λ (l : List Float). get_or l at nan) (sym e)
     ∙ placed_at sh p.subframe p.slot p.phch p.place p.there ok xs nan full
     ∙ ap (λ (k : ℕ). get_or xs k nan) p.index in
-    ap test (sym q) ∙ passes_at test ys at nan h (omega (arith, index_inside sh p.subframe p.slot p.phch p.place p.there)))
+    ap test (sym q) ∙ passes_at test ys at nan h (omega (arith, index-inside sh p.subframe p.slot p.phch p.place p.there)))
 
 module _ (sh : Sheet) (ok : Accepted sh) (i : ℕ) (l : i < sh.channels) (frame : List Float) where
   -- as many as the channel's share

@@ -12,7 +12,7 @@ use Rattle.sheet.specs.Sizes.{frames_of, size_of, equalised_all}
 use Rattle.sheet.specs.declared.Sheet.{Sheet}
 use Rattle.homing.specs.Home.{segment_home, channel_start, segment_start, taken_back_of}
 use Rattle.homing.specs.Received.{segment_at, taken_all, LastOf}
-use Rattle.homing.proofs.Taken.{turn_below, spots-apart, segment-within, length-segment, taken-length, taken-outside, taken-inside}
+use Rattle.homing.proofs.Taken.{turn_below, spots_apart, segment-within, length-segment, taken-length, taken-outside, taken-inside}
 
 module _ (sh : Sheet) where
   -- value m of segment n of channel i
@@ -58,7 +58,7 @@ module _ (sh : Sheet) where
         (record {
           none =
               λ j o lj ho q.
-              let w = spots-apart sh i n m j (number % frames_of sh j) o b k (turn_below sh number j) ho q in
+              let w = spots_apart sh i n m j (number % frames_of sh j) o b k (turn_below sh number j) ho q in
               e (ap (λ (x : ℕ). number % frames_of sh x) w.0 ∙ sym w.1);
         })
         ∙ sym (segment-value i n m old nan k))

@@ -32,10 +32,10 @@ module _ (sh : Sheet) where
   pub turn_below : (number i : ℕ) → number % frames_of sh i < frames_of sh i
   turn_below number i = mod-lt number (pow_pos (tti_of sh i))
 
-  pub spots-apart : (i n m j k o : ℕ) → n < frames_of sh i → m < size_of sh i → k < frames_of sh j → o < size_of sh j
+  pub spots_apart : (i n m j k o : ℕ) → n < frames_of sh i → m < size_of sh i → k < frames_of sh j → o < size_of sh j
       → spot_of i n m ≡ spot_of j k o → (i ≡ j) × (n ≡ k)
   unfolding channel_start
-  spots-apart i n m j k o hn hm hk ho e =
+  spots_apart i n m j k o hn hm hk ho e =
       let a = digits_lt {q = n} {m = frames_of sh i} {r = m} {c = size_of sh i} hn hm in
       let b = digits_lt {q = k} {m = frames_of sh j} {r = o} {c = size_of sh j} hk ho in
       let q : i ≡ j = (parts_apart (equalised_of sh) i j (n * size_of sh i + m) (k * size_of sh j + o) a b (omega arith)).0 in
@@ -61,7 +61,7 @@ module _ (sh : Sheet) where
   pub segments_apart : (number i m j o : ℕ) → m < size_of sh i → o < size_of sh j → segment_start sh number i + m ≡ segment_start sh number j + o → i ≡ j
   unfolding segment_start
   segments_apart number i m j o h k e =
-      (spots-apart i (number % frames_of sh i) m j (number % frames_of sh j) o (turn_below number i) h (turn_below number j) k e).0
+      (spots_apart i (number % frames_of sh i) m j (number % frames_of sh j) o (turn_below number i) h (turn_below number j) k e).0
 
   -- ---- one frame taken back
 

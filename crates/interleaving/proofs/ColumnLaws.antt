@@ -1,10 +1,14 @@
 -- Laws of columns: what stands in them, how long they are, and that they carry whatever stands in the list.
-use Rattle.std.proofs.Common.{◌≡◌, ℕ, zero, suc, ◌+◌, ◌-◌, ◌*◌, ◌/◌, ◌<◌, ◌≤◌, List, [], ◌∷◌, ◌++◌, map, length, get_or, sym, refl, ap, ◌∙◌, ap₂, mod-lt, suc-mul, mul_comm, div-add-mod', zero-mul, arith, length-append, get_or-append-add}
-use mathlib.Core.List.{map-append}
+use mathlib.Core.Path.{◌≡◌, refl, sym, ap, ap₂, ◌∙◌}
+use mathlib.Core.List.{List, [], ◌∷◌, ◌++◌, map, map-append}
+use Prim.Native.Nat.{ℕ, zero, suc, ◌+◌, ◌*◌, ◌-◌, ◌/◌, ◌≤◌, ◌<◌}
+use native.Mathlib.Nat.{zero-mul, suc-mul, mul_comm, div-add-mod', mod-lt}
+use native.Mathlib.Omega.{arith}
 use lib.Arith.{digits_div}
-use lib.ListN.{get_or-append}
+use lib.ListN.{length, get_or, length-append, get_or-append}
+use lib.Seq.{get_or-append-add}
 use Rattle.laws.specs.Sums.{sum_to}
-use Rattle.laws.proofs.SumLaws.{sum-shift}
+use Rattle.laws.proofs.SumLaws.{sum_shift}
 use Rattle.interleaving.specs.Columns.{column, columns, height, heights}
 
 -- every one of the columns cs is one of w
@@ -53,7 +57,7 @@ module _ (w : ℕ) (pos : 0 < w) where
     columns-length (c ∷ cs) xs a =
         length-append (column w c xs) (columns w cs xs)
         ∙ ap₂ ◌+◌ (column-length c xs (a 0 (omega arith))) (columns-length cs xs (λ t l. a (suc t) (omega arith)))
-        ∙ sym (sum-shift (λ s. height w (length xs) (get_or (c ∷ cs) s 0)) (length cs))
+        ∙ sym (sum_shift (λ s. height w (length xs) (get_or (c ∷ cs) s 0)) (length cs))
 
     -- row r of the t-th column that is read
     pub columns-at : (cs : List ℕ) (xs : List A) → Among w cs → (t r : ℕ) (z : A) → t < length cs → r < height w (length xs) (get_or cs t 0)
@@ -65,7 +69,7 @@ module _ (w : ℕ) (pos : 0 < w) where
         let l : r < length (column w c xs) = rw (column-length c xs (a 0 (omega arith))) k in
         rw (q, get_or-append (column w c xs) (columns w cs xs) z r l) (column-at c xs r z)
     columns-at (c ∷ cs) xs a (suc t) r z h k =
-        let s = sum-shift (λ s. height w (length xs) (get_or (c ∷ cs) s 0)) t in
+        let s = sum_shift (λ s. height w (length xs) (get_or (c ∷ cs) s 0)) t in
         let q : heights w (c ∷ cs) (length xs) (suc t) + r ≡ length (column w c xs) + (heights w cs (length xs) t + r) =
         omega (arith, s, column-length c xs (a 0 (omega arith))) in
         ap (λ (j : ℕ). get_or (column w c xs ++ columns w cs xs) j z) q

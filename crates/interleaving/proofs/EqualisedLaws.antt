@@ -1,7 +1,12 @@
 -- Laws of step 1: N, and the equalised list's length and elements.
-use Rattle.std.proofs.Common.{◌≡◌, ℕ, zero, suc, ◌+◌, ◌-◌, ◌*◌, ◌/◌, ◌<◌, ◌≤◌, List, ◌++◌, map, length, get_or, replicate, sym, refl, ap, ◌∙◌, mod-lt, mul_comm, mul-zero, div-add-mod', mul-suc, add-one, arith, length-append, get_or-append-add}
-use mathlib.Core.List.{map-append}
-use lib.ListN.{length-replicate, get_or-replicate, length-map, get_or-append, get_or-eq_default}
+use mathlib.Core.Path.{◌≡◌, refl, sym, ap, ◌∙◌}
+use mathlib.Core.List.{List, ◌++◌, map, map-append}
+use Prim.Native.Nat.{ℕ, zero, suc, ◌+◌, ◌*◌, ◌-◌, ◌/◌, ◌≤◌, ◌<◌}
+use native.Mathlib.Nat.{mul-zero, mul-suc, mul_comm, div-add-mod', mod-lt}
+use native.Mathlib.Numerals.{add-one}
+use native.Mathlib.Omega.{arith}
+use lib.ListN.{length, get_or, replicate, length-append, length-replicate, get_or-replicate, length-map, get_or-append, get_or-eq_default}
+use lib.Seq.{get_or-append-add}
 use Rattle.laws.proofs.PartLaws.{replicate-map}
 use Rattle.laws.proofs.TestLaws.{split}
 use Rattle.sheet.specs.Sizes.{frames_in, segment_in}

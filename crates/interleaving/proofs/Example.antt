@@ -1,5 +1,8 @@
 -- Values of document 01, computed.
-use Rattle.std.proofs.Common.{◌≡◌, ℕ, List, [], ◌∷◌, get_or, take, refl}
+use mathlib.Core.Path.{◌≡◌, refl}
+use mathlib.Core.List.{List, [], ◌∷◌}
+use Prim.Native.Nat.{ℕ}
+use lib.ListN.{get_or, take}
 use Rattle.laws.specs.Tables.{table}
 use Rattle.sheet.specs.Sizes.{segment_in}
 use Rattle.orders.specs.Orders.{orders, column_at, row_of, order}

@@ -1,6 +1,12 @@
 -- Laws of the undoing of steps 2 and 1.
-use Rattle.std.proofs.Common.{◌≡◌, ℕ, suc, ◌+◌, ◌-◌, ◌*◌, ◌/◌, ◌%◌, ◌<◌, ◌≤◌, List, map, length, get_or, take, replicate, sym, refl, ap, ◌∙◌, ap₂, mul-le-mul_right, mod-lt, suc-mul, mul_comm, lt_of_mul-lt-mul_right, div-add-mod', arith, length-take-le, get_or-take, take_at}
+use mathlib.Core.Path.{◌≡◌, refl, sym, ap, ap₂, ◌∙◌}
+use mathlib.Core.List.{List, map}
+use Prim.Native.Nat.{ℕ, suc, ◌+◌, ◌*◌, ◌-◌, ◌/◌, ◌%◌, ◌≤◌, ◌<◌}
+use native.Mathlib.Nat.{suc-mul, mul_comm, mul-le-mul_right, lt_of_mul-lt-mul_right, div-add-mod', mod-lt}
+use native.Mathlib.Omega.{arith}
 use lib.Arith.{digits_div, digits_mod}
+use lib.ListN.{length, get_or, take, replicate}
+use lib.Seq.{length-take-le, get_or-take, take_at}
 use Rattle.laws.specs.Tables.{table}
 use Rattle.laws.proofs.TableLaws.{table-length, table_get, tabled, table-alike}
 use Rattle.laws.proofs.PartLaws.{table-map, map_at}

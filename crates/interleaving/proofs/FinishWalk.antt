@@ -1,6 +1,12 @@
 -- The walk that lays a channel's segments down their columns: what holds before value i, and what one value does to it.
-use Rattle.std.proofs.Common.{◌≡◌, ℕ, suc, ◌+◌, ◌-◌, ◌*◌, ◌<◌, ◌≤◌, List, length, get_or, set, sym, refl, ap, ◌∙◌, suc-mul, zero-mul, add-one, arith}
+use mathlib.Core.Path.{◌≡◌, refl, sym, ap, ◌∙◌}
+use mathlib.Core.List.{List}
+use Prim.Native.Nat.{ℕ, suc, ◌+◌, ◌*◌, ◌-◌, ◌≤◌, ◌<◌}
+use native.Mathlib.Nat.{suc-mul, zero-mul}
+use native.Mathlib.Numerals.{add-one}
+use native.Mathlib.Omega.{arith}
 use lib.Ieee.{Float, nan}
+use lib.ListN.{length, get_or, set}
 use Rattle.laws.specs.Filling.{Filling}
 use Rattle.laws.proofs.FillingLaws.{filling_starts, filling_put, filling_skip, filling_ends}
 use Rattle.laws.proofs.TestLaws.{split}

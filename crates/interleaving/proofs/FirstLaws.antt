@@ -1,6 +1,11 @@
 -- Laws of steps 2 and 3.
-use Rattle.std.proofs.Common.{◌≡◌, ℕ, suc, ◌+◌, ◌*◌, ◌<◌, ◌≤◌, List, map, length, get_or, sym, ap, ◌∙◌, mul-le-mul_right, suc-mul, add_comm, arith, length-drop, length-take, get_or-drop, get_or-take, ext_get_or}
-use mathlib.Core.List.{flatten}
+use mathlib.Core.Path.{◌≡◌, sym, ap, ◌∙◌}
+use mathlib.Core.List.{List, map, flatten}
+use Prim.Native.Nat.{ℕ, suc, ◌+◌, ◌*◌, ◌≤◌, ◌<◌}
+use native.Mathlib.Nat.{add_comm, suc-mul, mul-le-mul_right}
+use native.Mathlib.Omega.{arith}
+use lib.ListN.{length, get_or, length-take, length-drop}
+use lib.Seq.{get_or-take, get_or-drop, ext_get_or}
 use Rattle.laws.specs.Tables.{table}
 use Rattle.laws.proofs.SumLaws.{sum_const}
 use Rattle.laws.proofs.TableLaws.{tabled}

@@ -5,5 +5,4 @@ pub mod FinishLaws
 pub mod SecondLaws
 pub mod FinishWalk
 pub mod SecondWalk
-pub mod WholeLaws
 pub mod Example

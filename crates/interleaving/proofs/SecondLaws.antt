@@ -1,6 +1,13 @@
 -- Laws of step 8 and of its undoing.
-use Rattle.std.proofs.Common.{◌≡◌, ℕ, zero, suc, ◌+◌, ◌-◌, ◌*◌, ◌/◌, ◌%◌, ◌<◌, ◌≤◌, Bool, eqb, List, map, length, get_or, set, sym, refl, ap, ◌∙◌, ap₂, arith, lit<, eqb→eq, length-set, get_or-set_other, get_or-set_same, ext_get_or}
+use mathlib.Core.Path.{◌≡◌, refl, sym, ap, ap₂, ◌∙◌}
+use mathlib.Core.Bool.{Bool}
+use mathlib.Core.List.{List, map}
+use Prim.Native.Nat.{ℕ, zero, suc, ◌+◌, ◌*◌, ◌-◌, ◌/◌, ◌%◌, ◌≤◌, ◌<◌}
+use native.Mathlib.Omega.{arith}
 use native.Mathlib.Decide.{ℕ_discrete}
+use lib.Dec.{eqb, eqb→eq, lit<}
+use lib.ListN.{length, get_or, set, length-set}
+use lib.Seq.{ext_get_or, get_or-set_same, get_or-set_other}
 use Rattle.laws.specs.Sums.{sum_to}
 use Rattle.laws.specs.Tables.{table}
 use Rattle.laws.specs.Least.{Passes}

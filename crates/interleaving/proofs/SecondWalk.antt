@@ -1,72 +1,69 @@
 -- The walk over the turns of step 8.
-use Rattle.std.proofs.Common.{◌≡◌, ℕ, suc, ◌+◌, ◌-◌, ◌*◌, ◌%◌, ◌<◌, ◌≤◌, List, length, get_or, set, sym, refl, ap, ◌∙◌, add-one, arith, length-set, get_or-set_other, get_or-set_same}
-use native.Mathlib.Decide.{ℕ_discrete}
-use lib.Arith.{lt_of_le-ne}
+use mathlib.Core.Path.{◌≡◌, refl, sym, ap, ◌∙◌}
+use mathlib.Core.List.{List}
+use Prim.Native.Nat.{ℕ, suc, ◌+◌, ◌*◌, ◌-◌, ◌≤◌, ◌<◌}
+use native.Mathlib.Numerals.{add-one}
+use native.Mathlib.Omega.{arith}
+use lib.ListN.{get_or, set, replicate, length-replicate}
 use Rattle.laws.specs.Sums.{sum_to}
+use Rattle.laws.specs.Filling.{Filling}
+use Rattle.laws.proofs.FillingLaws.{filling_next}
 use Rattle.laws.proofs.TestLaws.{split}
-use Rattle.sheet.specs.Counts.{most_bits}
 use Rattle.orders.specs.Orders.{order}
-use Rattle.orders.proofs.OrderLaws.{order-turn}
 use Rattle.interleaving.specs.Columns.{height}
 use Rattle.interleaving.specs.Second.{read_before, comes_from}
-use Rattle.interleaving.specs.Turns.{Turning, Turned, Seated}
+use Rattle.interleaving.specs.Turns.{Turned, Seated}
 use Rattle.interleaving.specs.declared.second.Seat.{Seat}
 use Rattle.interleaving.proofs.SecondLaws.{read_suc, read_all, read_within, source_row}
 
--- ---- where the turns end, and their shifts
+-- ---- where the turns begin
 
-pub turning_none : (K : ℕ) {ends shifts : List ℕ} → (length ends ≡ 30) × (length shifts ≡ 30) → Turning K 0 ends shifts
-turning_none K l = record { long = l; end = λ t h. absurd (omega arith); shift = λ t h. absurd (omega arith) }
+begins_starts : (K : ℕ) → Filling 0 (read_before K) (λ t. t) 31 (replicate 31 0) 1
+unfolding sum_to
+begins_starts K =
+    record { long = length-replicate {A = ℕ} 31 0; each = λ t b h. let e : t ≡ 0 = omega arith in rw e refl }
 
-pub turning_next : {K t h y : ℕ} {ends shifts : List ℕ} (x : ℕ) → Turning K t ends shifts → t < 30 → h ≡ 30 * height 30 K (get_or order t 0)
-    → (x + 30 * read_before K t) % 18446744073709551616 ≡ get_or order t 0 → y ≡ 30 * read_before K t + h
-    → Turning K (t + 1) (set ends t y) (set shifts t x)
-turning_next {K} {t} {h} {y} {ends} {shifts} x o l e p q = record {
-  long = (length-set ends t y ∙ o.long.0, length-set shifts t x ∙ o.long.1);
-  end = λ s b. elim (ℕ_discrete s t) [
-    | yes z ↦ rw z (get_or-set_same ends t y 0 (omega (arith, o.long.0)) ∙ rw (add-one t) (omega (arith, q, e, read_suc K t)))
-    | no z ↦ get_or-set_other ends t s y 0 z ∙ o.end s (lt_of_le-ne {i = s} {k = t} (omega arith) z)
-  ];
-  shift = λ s b. elim (ℕ_discrete s t) [
-    | yes z ↦ rw z (ap (λ (v : ℕ). (v + 30 * read_before K t) % 18446744073709551616) (get_or-set_same shifts t x 0 (omega (arith, o.long.1))) ∙ p)
-    | no z ↦
-        ap (λ (v : ℕ). (v + 30 * read_before K s) % 18446744073709551616) (get_or-set_other shifts t s x 0 z)
-        ∙ o.shift s (lt_of_le-ne {i = s} {k = t} (omega arith) z)
-  ];
-}
+-- the beginnings of the turns up to t are known
+pub record Begins (K : ℕ) (begins : List ℕ) (t : ℕ) : Type 0 where
+  pub some : t ≤ 30
+  pub filling : Filling 0 (read_before K) (λ s. s) 31 begins (t + 1)
+
+pub begins-none : (K : ℕ) → Begins K (replicate 31 0) 0
+begins-none K = record { some = omega arith; filling = begins_starts K }
+
+module _ {K t : ℕ} {begins : List ℕ} (b : Begins K begins t) where
+  pub begins-at : get_or begins t 0 ≡ read_before K t
+  begins-at = b.filling.each t (omega (arith, b.some)) (omega arith)
+
+  pub begins-next : {h x : ℕ} → t < 30 → h ≡ height 30 K (get_or order t 0) → x ≡ get_or begins t 0 + h → Begins K (set begins (t + 1) x) (t + 1)
+  begins-next {h} {x} l e q =
+      record { some = omega arith; filling = filling_next b.filling x (omega arith) (rw (add-one t) (omega (arith, q, e, begins-at, read_suc K t))) }
+
+  pub begins-all : 30 ≤ t → Turned K begins
+  begins-all l = record { long = b.filling.long; each = λ s h. b.filling.each s h (omega arith) }
 
 -- past a turn there is another
-pub turn_more : {K cell t : ℕ} {ends shifts : List ℕ} → Turned K ends shifts → t < 30 → cell < 30 * K → get_or ends t 0 ≤ cell
-    → (t + 1 < 30) × (30 * read_before K (t + 1) ≤ cell)
-turn_more {K} {cell} {t} b h l m =
-    let e = b.end t h in
+pub turn_more : {K k t : ℕ} {begins : List ℕ} → Turned K begins → t < 30 → k < K → get_or begins (t + 1) 0 ≤ k → (t + 1 < 30) × (read_before K (t + 1) ≤ k)
+turn_more {K} {k} {t} b h l m =
+    let e = b.each (t + 1) (omega arith) in
     split t 28 (λ le. (omega arith, omega (arith, e)))
     (λ lt. let q : t + 1 ≡ 30 = omega arith in absurd (omega (arith, e, ap (read_before K) q, read_all K)))
 
--- a shift that makes c of b makes as much more of what is more than b
-shifted : (s b c n : ℕ) → (s + b) % 18446744073709551616 ≡ c → n + c < 18446744073709551616 → (b + n + s) % 18446744073709551616 ≡ n + c
-shifted s b c n e h = omega (arith, e)
-
--- the turn gives the seat
-pub seated : {K cell : ℕ} {ends shifts : List ℕ} {s : Seat} → Turned K ends shifts → K ≤ most_bits → s.turn < 30 → 30 * read_before K s.turn ≤ cell
-    → cell < 30 * read_before K (s.turn + 1) → s.shift ≡ get_or shifts s.turn 0 → s.end ≡ get_or ends s.turn 0 → Seated K cell s
-seated {K} {cell} {ends} {shifts} {s} b most h low high shift end =
+-- the turn of an index gives its seat
+pub seated : {K k : ℕ} {begins : List ℕ} {s : Seat} → Turned K begins → s.turn < 30 → read_before K s.turn ≤ k → k < read_before K (s.turn + 1)
+    → s.from ≡ 30 * (k - get_or begins s.turn 0) + get_or order s.turn 0 → s.end ≡ get_or begins (s.turn + 1) 0 → Seated K k s
+seated {K} {k} {begins} {s} b h low high from end =
     let t = s.turn in
-    let e : s.end ≡ 30 * read_before K (suc t) = end ∙ b.end t h ∙ ap (λ (n : ℕ). 30 * read_before K n) (add-one t) in
-    let g : (s.shift + 30 * read_before K t) % 18446744073709551616 ≡ get_or order t 0 =
-    ap (λ (x : ℕ). (x + 30 * read_before K t) % 18446744073709551616) shift ∙ b.shift t h in
-    let w = read_within K (suc t) (omega arith) in
+    let e : s.end ≡ read_before K (suc t) = end ∙ b.each (t + 1) (omega arith) ∙ ap (read_before K) (add-one t) in
+    let u : k < read_before K (suc t) = rw (add-one t) at high in
+    let g = b.each t (omega arith) in
     record {
       turn = h;
       begun = low;
-      inside = omega (arith, end, b.end t h, high);
-      last = omega (arith, e, w);
-      from = λ j l m.
-          let n = j - read_before K t in
-          let a : 30 * j + s.shift ≡ 30 * read_before K t + 30 * n + s.shift = omega arith in
-          ap (λ (x : ℕ). x % 18446744073709551616) a
-          ∙ shifted s.shift (30 * read_before K t) (get_or order t 0) (30 * n) g (omega (arith, e, w, most, (order-turn t h).0))
-          ∙ sym (source_row K t j h l (omega (arith, e)));
+      inside = omega (arith, e, u);
+      last = omega (arith, e, read_within K (suc t) (omega arith));
+      from = from ∙ omega (arith, g, source_row K t k h low u);
+      row = λ j n l m. omega (arith, source_row K t (j + n) h (omega arith) (omega (arith, e)), source_row K t j h l (omega (arith, e)));
     }
 
 -- the walk back: index j lies in turn t or past it, left elements further

@@ -1,5 +1,5 @@
 -- What both interleavings do: elements written row by row into w columns, the last row maybe short, and read column by column.
-use Rattle.std.specs.Prelude.{ℕ, zero, suc, ◌+◌, ◌-◌, ◌/◌, List, [], ◌∷◌, ◌++◌, slice_index}
+use Rattle.std.specs.Prelude.{List, [], ◌∷◌, ◌++◌, ℕ, zero, suc, ◌+◌, ◌-◌, ◌/◌, get_or}
 use Rattle.laws.specs.Sums.{sum_to}
 
 module _ {A : Type 0} where
@@ -20,4 +20,4 @@ height w K c = (K + (w - 1) - c) / w
 
 -- and the first t of the columns cs together
 abbrev pub heights : ℕ → List ℕ → ℕ → ℕ → ℕ
-heights w cs K t = sum_to (λ s. height w K (slice_index cs s)) t
+heights w cs K t = sum_to (λ s. height w K (get_or cs s 0)) t

@@ -1,5 +1,5 @@
 -- Steps 1 to 3: equalisation, first interleaving, segmentation; and the undoing of 2 and 1. F is frames_in tti, n is N.
-use Rattle.std.specs.Prelude.{◌≡◌, ℕ, ◌+◌, ◌-◌, ◌*◌, ◌/◌, ◌%◌, ◌≤◌, List, ◌++◌, length, take, drop, replicate, slice_index_or}
+use Rattle.std.specs.Prelude.{◌≡◌, List, ◌++◌, ℕ, ◌+◌, ◌*◌, ◌-◌, ◌/◌, ◌%◌, ◌≤◌, length, get_or, take, drop, replicate}
 use Rattle.laws.specs.Tables.{table}
 use Rattle.sheet.specs.Counts.{most_tti}
 use Rattle.sheet.specs.Sizes.{frames_in}
@@ -25,7 +25,7 @@ seat tti n k = column_at tti (k % frames_in tti) * n + k / frames_in tti
 
 -- steps 2 and 1 undone: the first e elements in the coder's order; z is read nowhere if ys has F x N
 unfoldable pub finished : {A : Type 0} → A → ℕ → ℕ → ℕ → List A → List A
-finished z tti n e ys = table (λ k. slice_index_or ys (seat tti n k) z) 0 e
+finished z tti n e ys = table (λ k. get_or ys (seat tti n k) z) 0 e
 
 -- what is lent for a finished channel: all F x N values, and room for at most as many
 pub record Finishing (tti n part out : ℕ) : Type 0 where

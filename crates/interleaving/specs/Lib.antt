@@ -2,4 +2,3 @@ pub mod Columns
 pub mod First
 pub mod Second
 pub mod Turns
-pub mod Whole

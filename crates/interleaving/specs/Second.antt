@@ -1,5 +1,5 @@
 -- Step 8: second interleaving, and its undoing.
-use Rattle.std.specs.Prelude.{ℕ, ◌+◌, ◌-◌, ◌*◌, ◌/◌, ◌%◌, List, length, slice_index, slice_index_or}
+use Rattle.std.specs.Prelude.{List, ℕ, ◌+◌, ◌*◌, ◌-◌, ◌/◌, ◌%◌, length, get_or}
 use Rattle.laws.specs.Tables.{table}
 use Rattle.laws.specs.Least.{first}
 use Rattle.orders.specs.Orders.{order, turn_of}
@@ -23,8 +23,8 @@ turn_at K j = first (read_before K) j 30 0
 
 -- and what stands there: the element of that turn's column in row j less what is read before
 unfoldable pub comes_from : ℕ → ℕ → ℕ
-comes_from K j = 30 * (j - read_before K (turn_at K j)) + slice_index order (turn_at K j)
+comes_from K j = 30 * (j - read_before K (turn_at K j)) + get_or order (turn_at K j) 0
 
 -- undone: element k is the one that stands where step 8 puts k; z is read nowhere
 unfoldable pub second_undone : {A : Type 0} → A → List A → List A
-second_undone z ys = table (λ k. slice_index_or ys (goes_to (length ys) k) z) 0 (length ys)
+second_undone z ys = table (λ k. get_or ys (goes_to (length ys) k) z) 0 (length ys)

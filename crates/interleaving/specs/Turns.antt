@@ -1,24 +1,18 @@
--- How the code reads and writes through step 8. It counts 30 for each index, as within a turn the element moves by 30 from one index to the next: the
--- sum of such a count and a number of the turn is the element.
-use Rattle.std.specs.Prelude.{◌≡◌, ℕ, ◌+◌, ◌*◌, ◌%◌, ◌<◌, ◌≤◌, List, length, slice_index}
-use Rattle.orders.specs.Orders.{order}
+-- How the code reads and writes through step 8: where its turns begin among interleaved elements, and the indices of one turn.
+use Rattle.std.specs.Prelude.{◌≡◌, List, ℕ, ◌+◌, ◌*◌, ◌≤◌, ◌<◌, length, get_or}
 use Rattle.interleaving.specs.Second.{read_before, comes_from}
 use Rattle.interleaving.specs.declared.second.Seat.{Seat}
 
--- of K elements, for each of the first n turns, 30 times where it ends, and what makes 30 times where it begins its column, modulo 2^64
-pub record Turning (K n : ℕ) (ends shifts : List ℕ) : Type 0 where
-  pub long : (length ends ≡ 30) × (length shifts ≡ 30)
-  pub end : (t : ℕ) → t < n → slice_index ends t ≡ 30 * read_before K (t + 1)
-  pub shift : (t : ℕ) → t < n → (slice_index shifts t + 30 * read_before K t) % 18446744073709551616 ≡ slice_index order t
+-- of K elements, where each of the 30 turns begins, and where the last ends
+pub record Turned (K : ℕ) (begins : List ℕ) : Type 0 where
+  pub long : length begins ≡ 31
+  pub each : (t : ℕ) → t < 31 → get_or begins t 0 ≡ read_before K t
 
--- for all turns
-abbrev pub Turned : ℕ → List ℕ → List ℕ → Type 0
-Turned K ends shifts = Turning K 30 ends shifts
-
--- the turn in which 30 times an index falls, and where each index of it comes from
-pub record Seated (K cell : ℕ) (s : Seat) : Type 0 where
+-- the seat of index k; within a turn the indices come from every 30th element
+pub record Seated (K k : ℕ) (s : Seat) : Type 0 where
   pub turn : s.turn < 30
-  pub begun : 30 * read_before K s.turn ≤ cell
-  pub inside : cell < s.end
-  pub last : s.end ≤ 30 * K
-  pub from : (j : ℕ) → read_before K s.turn ≤ j → 30 * j < s.end → (30 * j + s.shift) % 18446744073709551616 ≡ comes_from K j
+  pub begun : read_before K s.turn ≤ k
+  pub inside : k < s.end
+  pub last : s.end ≤ K
+  pub from : s.from ≡ comes_from K k
+  pub row : (j n : ℕ) → read_before K s.turn ≤ j → j + n < s.end → comes_from K (j + n) ≡ comes_from K j + 30 * n

@@ -1,5 +1,5 @@
 // Step 8 as a walk over interleaved elements has it: which element each index comes from.
-ghost use Rattle.std.specs.Prelude.{◌≡◌, ◌+◌, ◌*◌, ◌<◌, ◌≤◌, length, slice_index};
+ghost use Rattle.std.specs.Prelude.{◌≡◌, ◌+◌, ◌*◌, ◌≤◌, ◌<◌, get_or};
 ghost use Rattle.sheet.specs.Counts.{most_bits};
 ghost use Rattle.orders.specs.Orders.{order};
 ghost use Rattle.interleaving.specs.Columns.{height};
@@ -7,9 +7,9 @@ ghost use Rattle.interleaving.specs.Second.{read_before, comes_from};
 ghost use Rattle.interleaving.specs.Turns.{Turned, Seated};
 
 // The column of turn t. The order is lent from a local, for the reason that `orders` gives.
-pub fn column_at(columns: &[u8; 30], t: usize) -> usize
+fn column_at(columns: &[u8; 30], t: usize) -> usize
     requires { (columns.now ≡ order) × (t < 30) }
-    ensures { (result ≡ slice_index order t) × (result < 30) }
+    ensures { (result ≡ get_or order t 0) × (result < 30) }
 {
     columns[t] as usize
 }
@@ -22,65 +22,61 @@ fn height_of(n: u64, c: u64) -> u64
     (n + 29 - c) / 30
 }
 
-// 30 times as many, of `rows` whole rows and `rest` elements more, where n has been divided once for all columns: what a turn's indices count if each
-// counts 30.
-fn span_by(rows: usize, rest: usize, c: usize) -> usize
+// The same of `rows` whole rows and `rest` elements more, where n has been divided once for all columns.
+fn height_by(rows: usize, rest: usize, c: usize) -> usize
     requires { (30 * rows + rest ≤ most_bits) × (rest < 30) × (c < 30) }
-    ensures { result ≡ 30 * height 30 (30 * rows + rest) c }
+    ensures { result ≡ height 30 (30 * rows + rest) c }
 {
-    if c < rest { 30 * rows + 30 } else { 30 * rows }
+    if c < rest { rows + 1 } else { rows }
 }
 
-// Lays out the turns of step 8 over n elements. Each index counts 30 here, and so far the element moves within a turn from one index to the next: a
-// turn's shift, added modulo 2^64 to such a count, gives the element that stands there.
-pub fn lay_turns(n: usize, ends: &mut [usize; 30], shifts: &mut [usize; 30])
-    requires { (n ≤ most_bits) × (length ends.old ≡ 30) × (length shifts.old ≡ 30) }
-    ensures { Turned n ends.new shifts.new }
+// Where each turn begins among n interleaved elements, and where the last ends.
+pub fn begin_turns(n: usize) -> [usize; 31]
+    requires { n ≤ most_bits }
+    ensures { Turned n result }
 {
     let order = orders::columns();
     let rows = n / 30;
     let rest = n % 30;
-    let mut begin: usize = 0;
+    let mut begins = [0usize; 31];
     let mut t: usize = 0;
     while t < 30 {
-        let c = column_at(&order, t);
-        shifts[t] = std::num::wrapping_sub_usize(c, begin);
-        begin += span_by(rows, rest, c);
-        ends[t] = begin;
+        begins[t + 1] = begins[t] + height_by(rows, rest, column_at(&order, t));
         t += 1;
     }
+    begins
 }
 
-// The turn of 30 times an index, with its shift and where it ends.
+// The seat of an index of interleaved elements: the turn in which it is read, the element that it comes from, and the turn's end.
 #[derive(Drop)]
 pub struct Seat {
     pub turn: usize,
-    pub shift: usize,
+    pub from: usize,
     pub end: usize,
 }
 
-// The turn of such a count of n elements, which is not before turn t.
-fn turn_from(ends: &[usize; 30], shifts: &[usize; 30], n: usize, t: usize, cell: usize) -> usize
-    requires { Turned n ends.now shifts.now × (t < 30) × (30 * read_before n t ≤ cell) × (cell < 30 * n) }
-    ensures { (result < 30) × (30 * read_before n result ≤ cell) × (cell < 30 * read_before n (result + 1)) }
+// The turn of index k of n, which is not before turn t.
+fn turn_from(begins: &[usize; 31], n: usize, t: usize, k: usize) -> usize
+    requires { Turned n begins.now × (t < 30) × (read_before n t ≤ k) × (k < n) }
+    ensures { (result < 30) × (read_before n result ≤ k) × (k < read_before n (result + 1)) }
 {
     let mut r = t;
-    while ends[r] <= cell {
+    while begins[r + 1] <= k {
         r += 1;
     }
     r
 }
 
 // Its seat. A walk goes from seat to seat, so that it looks for none twice.
-pub fn seat_from(ends: &[usize; 30], shifts: &[usize; 30], n: usize, t: usize, cell: usize) -> Seat
-    requires { Turned n ends.now shifts.now × (t < 30) × (30 * read_before n t ≤ cell) × (cell < 30 * n) × (n ≤ most_bits) }
-    ensures { Seated n cell result }
+pub fn seat_from(begins: &[usize; 31], columns: &[u8; 30], n: usize, t: usize, k: usize) -> Seat
+    requires { Turned n begins.now × (columns.now ≡ order) × (t < 30) × (read_before n t ≤ k) × (k < n) × (n ≤ most_bits) }
+    ensures { Seated n k result }
 {
-    let turn = turn_from(ends, shifts, n, t, cell);
+    let turn = turn_from(begins, n, t, k);
     Seat {
         turn,
-        shift: shifts[turn],
-        end: ends[turn],
+        from: 30 * (k - begins[turn]) + column_at(columns, turn),
+        end: begins[turn + 1],
     }
 }
 

@@ -17,7 +17,7 @@ use Rattle.joining.specs.declared.Heard.{Heard}
 use Rattle.joining.specs.Joining.{raw_of, clipped, join_of, value_of, home_of, Clips}
 use Rattle.joining.proofs.ClipLaws.{clip_heard}
 use Rattle.joining.proofs.HomeLaws.{length_home, heard_by}
-use Rattle.joining.proofs.PlaceLaws.{Place, left, once_heard, place-start, place-room, place-next, left-next}
+use Rattle.joining.proofs.PlaceLaws.{Place, left, once_heard, place-start, place-room, place-next, left_next}
 
 -- what bits get by their shares of the values sent
 abbrev given : List (List Float) → List Float
@@ -50,7 +50,7 @@ module _ {less : Bool} {m start : ℕ} {vs old list : List Float} {e k i : ℕ} 
   unfolding join_of
   fill_turn b t qv qx =
       rw (qx, qv, t.0, ← clip_heard (raw_of (take (copies_at less (2 * length old) (2 * m) e) (drop k vs))))
-      (record { place = place-next f.place b t.1 t.2; todo = todo_put f.todo (ap given (left-next f.place b t.1 t.2)) })
+      (record { place = place-next f.place b t.1 t.2; todo = todo_put f.todo (ap given (left_next f.place b t.1 t.2)) })
 
   -- one bit of one copy
   pub fill_once : i < length old → 2 * m < e → {x : Float} → x ≡ clipped (get_or vs k nan) → Filling less m start vs old (set list i x) (e - 2 * m) (k + 1) (i + 1)

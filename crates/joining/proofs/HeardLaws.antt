@@ -10,7 +10,7 @@ use lib.Seq.{length-take-le}
 use lib.Ieee.{Float}
 use Rattle.laws.specs.Sums.{sum_to}
 use Rattle.laws.proofs.LeastLaws.{rises}
-use Rattle.laws.proofs.SumLaws.{sum-shift}
+use Rattle.laws.proofs.SumLaws.{sum_shift}
 use Rattle.pattern.specs.Pattern.{copies_at, after, copies_from, shared_from, negative, copies_of, shared, Rates}
 use Rattle.pattern.specs.Closed.{sent_before}
 use Rattle.pattern.proofs.WalkLaws.{first-apart}
@@ -56,7 +56,7 @@ unheard-sum less P D e (suc n) vs h =
     punctures-first (take c vs) (map join_of (shared_from less P D (after less P D e) n (drop c vs)))
     ∙ ap₂ (λ (x k : ℕ). 1 - x + k) (length-take-le c vs (omega arith))
     (unheard-sum less P D (after less P D e) n (drop c vs) (rw length-drop (omega arith)))
-    ∙ sym (sum-shift (λ m. 1 - copies_from less P D e m) n)
+    ∙ sym (sum_shift (λ m. 1 - copies_from less P D e m) n)
 
 -- over the whole segment, N - V: none where d is not below 0, and |d| where it is
 pub unheard-all : (d : ℤ) (N e : ℕ) (vs : List Float) → Rates d N (length vs) e → punctures (heard_of d N e vs) ≡ N - length vs

@@ -88,8 +88,8 @@ module _ {less : Bool} {m N : ℕ} {vs : List Float} {e k i : ℕ} (p : Place le
           rest = omega (arith, apart);
         })
 
-    pub left-next : left less m N vs e k i ≡ take (copies_at less (2 * N) (2 * m) e) (drop k vs) ∷ left less m N vs e' k' (i + 1)
+    pub left_next : left less m N vs e k i ≡ take (copies_at less (2 * N) (2 * m) e) (drop k vs) ∷ left less m N vs e' k' (i + 1)
     unfolding shared_from
-    left-next =
+    left_next =
         let q : N - i ≡ suc (N - (i + 1)) = omega arith in
         rw (q, qk, qe, ← drop-drop (copies_at less (2 * N) (2 * m) e) k vs)

@@ -33,10 +33,10 @@ module _ {f : ℕ → ℕ} {b n sum i : ℕ} (s : Summed f b n sum i) where
   summed_all l = let e : i ≡ n = omega (arith, s.few) in s.is ∙ ap (sum_to f) e
 
 -- the first term taken out
-pub sum-shift : (f : ℕ → ℕ) (n : ℕ) → sum_to f (suc n) ≡ f 0 + sum_to (λ i. f (suc i)) n
+pub sum_shift : (f : ℕ → ℕ) (n : ℕ) → sum_to f (suc n) ≡ f 0 + sum_to (λ i. f (suc i)) n
 unfolding sum_to
-sum-shift f zero = omega arith
-sum-shift f (suc n) = omega (arith, sum-shift f n)
+sum_shift f zero = omega arith
+sum_shift f (suc n) = omega (arith, sum_shift f n)
 
 pub sum_same : (f g : ℕ → ℕ) (n : ℕ) → ((i : ℕ) → i < n → f i ≡ g i) → sum_to f n ≡ sum_to g n
 unfolding sum_to

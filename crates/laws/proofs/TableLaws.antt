@@ -28,10 +28,10 @@ module _ {A : Type 0} where
   pub table_get : (f : ℕ → A) (n i : ℕ) (d : A) → i < n → get_or (table f 0 n) i d ≡ f i
   table_get f n i d h = table-from f 0 n i d h ∙ ap f (zero-add i)
 
-  pub table-shift : (f : ℕ → A) (from n : ℕ) → table f (suc from) n ≡ table (λ i. f (suc i)) from n
+  pub table_shift : (f : ℕ → A) (from n : ℕ) → table f (suc from) n ≡ table (λ i. f (suc i)) from n
   unfolding table
-  table-shift f from zero = refl
-  table-shift f from (suc n) = ap (λ (l : List A). f (suc from) ∷ l) (table-shift f (suc from) n)
+  table_shift f from zero = refl
+  table_shift f from (suc n) = ap (λ (l : List A). f (suc from) ∷ l) (table_shift f (suc from) n)
 
   -- a list is the table of its entries
   pub tabled : (g : ℕ → A) (l : List A) (m : ℕ) (d : A) → length l ≡ m → ((j : ℕ) → j < m → get_or l j d ≡ g j) → l ≡ table g 0 m

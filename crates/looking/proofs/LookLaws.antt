@@ -176,8 +176,8 @@ module _ {A B : Type 0} (test : A → Bool) (vs : List A) (needed room : ℕ) (h
     same = ap (λ (x : Answer). x.number) e ∙ sym (append_clear (look_lines test vs needed (length old) room) (clear_of (early_numbered early) clear))
 
     -- refused by 11 or 12
-    pub left-looked : (r.number ≡ 0 → ⊥) → outcome r.number r.at old ≡ looked whole (first_fail test vs) count new old
-    left-looked z =
+    pub left_looked : (r.number ≡ 0 → ⊥) → outcome r.number r.at old ≡ looked whole (first_fail test vs) count new old
+    left_looked z =
         left same
         (ap (λ (x : Answer). x.at) e
         ∙ ap (λ (n : ℕ). indexed n (first_fail test vs)) (sym (ap (λ (x : Answer). x.number) e) ∙ same)
@@ -209,7 +209,7 @@ module _ {A B : Type 0} (test : A → Bool) (vs : List A) (old : List B) (need r
 
     pub leaves_looked : (r.number ≡ 0 → ⊥) → Leaves r.number r.at old
     leaves_looked k =
-        left-looked test vs (need (sheet_of s)) (room (sheet_of s)) head early (count (sheet_of s)) (make (sheet_of s)) old (sym b.number ∙ z) r asked k
+        left_looked test vs (need (sheet_of s)) (room (sheet_of s)) head early (count (sheet_of s)) (make (sheet_of s)) old (sym b.number ∙ z) r asked k
 
     pub leaves_written : r.number ≡ 0 → {c : ℕ} {l : List B} → c ≡ count a.opened.fields → l ≡ make a.opened.fields → Leaves 0 c l
     leaves_written k f g =

@@ -5,23 +5,23 @@ use Rattle.laws.specs.Tables.{table}
 use Rattle.mapping.specs.Mapping.{passed, one_more, onward, taker, after_bit, pos_of, place, run, mapped, before, place_of, unmapped, ones, first_run, second_run, in_runs, slot_of, slot_undone}
 
 -- U = 3, 2: PhCH 1 holds 1,3,5, PhCH 2 holds 4,2
-three-two : slot_of {A = ℕ} ones (3 ∷ 2 ∷ []) (1 ∷ 2 ∷ 3 ∷ 4 ∷ 5 ∷ []) (0 ∷ 0 ∷ 0 ∷ 0 ∷ 0 ∷ []) ≡ (1 ∷ 3 ∷ 5 ∷ 4 ∷ 2 ∷ [])
+three_two : slot_of {A = ℕ} ones (3 ∷ 2 ∷ []) (1 ∷ 2 ∷ 3 ∷ 4 ∷ 5 ∷ []) (0 ∷ 0 ∷ 0 ∷ 0 ∷ 0 ∷ []) ≡ (1 ∷ 3 ∷ 5 ∷ 4 ∷ 2 ∷ [])
 unfolding mapped run after_bit taker passed one_more onward place pos_of sum_to
-three-two = refl
+three_two = refl
 
 -- U = 1, 3: 1 and 4,3,2
-one-three : slot_of {A = ℕ} ones (1 ∷ 3 ∷ []) (1 ∷ 2 ∷ 3 ∷ 4 ∷ []) (0 ∷ 0 ∷ 0 ∷ 0 ∷ []) ≡ (1 ∷ 4 ∷ 3 ∷ 2 ∷ [])
+one_three : slot_of {A = ℕ} ones (1 ∷ 3 ∷ []) (1 ∷ 2 ∷ 3 ∷ 4 ∷ []) (0 ∷ 0 ∷ 0 ∷ 0 ∷ []) ≡ (1 ∷ 4 ∷ 3 ∷ 2 ∷ [])
 unfolding mapped run after_bit taker passed one_more onward place pos_of sum_to
-one-three = refl
+one_three = refl
 
 -- and back
-three-two_home : slot_undone {A = ℕ} ones (3 ∷ 2 ∷ []) 0 (1 ∷ 3 ∷ 5 ∷ 4 ∷ 2 ∷ []) ≡ (1 ∷ 2 ∷ 3 ∷ 4 ∷ 5 ∷ [])
+three_two_home : slot_undone {A = ℕ} ones (3 ∷ 2 ∷ []) 0 (1 ∷ 3 ∷ 5 ∷ 4 ∷ 2 ∷ []) ≡ (1 ∷ 2 ∷ 3 ∷ 4 ∷ 5 ∷ [])
 unfolding unmapped place_of before after_bit taker passed one_more onward place pos_of sum_to table
-three-two_home = refl
+three_two_home = refl
 
-one-three_home : slot_undone {A = ℕ} ones (1 ∷ 3 ∷ []) 0 (1 ∷ 4 ∷ 3 ∷ 2 ∷ []) ≡ (1 ∷ 2 ∷ 3 ∷ 4 ∷ [])
+one_three_home : slot_undone {A = ℕ} ones (1 ∷ 3 ∷ []) 0 (1 ∷ 4 ∷ 3 ∷ 2 ∷ []) ≡ (1 ∷ 2 ∷ 3 ∷ 4 ∷ [])
 unfolding unmapped place_of before after_bit taker passed one_more onward place pos_of sum_to table
-one-three_home = refl
+one_three_home = refl
 
 -- uplink, U = 4, 3 and SF = 16, 8: runs of 1 and 2. 1; 2,3; 4; 5, which fills PhCH 2 in mid-run; then PhCH 1 takes 6 and 7. PhCH 1 holds 1,4,6,7,
 -- PhCH 2 holds 5,3,2

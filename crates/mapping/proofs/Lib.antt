@@ -11,6 +11,3 @@ pub mod LineLaws
 pub mod AlongLaws
 pub mod PairLaws
 pub mod SlotLaws
-pub mod BothLaws
-pub mod AloneLaws
-pub mod HandLaws

@@ -11,12 +11,12 @@ use Rattle.sheet.specs.Counts.{most_bits}
 use Rattle.interleaving.specs.Second.{second_interleaved, read_before, comes_from}
 use Rattle.interleaving.specs.Turns.{Seated}
 use Rattle.interleaving.specs.declared.second.Seat.{Seat}
-use Rattle.interleaving.proofs.SecondLaws.{source_below, second_at, second-length, second-set}
+use Rattle.interleaving.proofs.SecondLaws.{source_below, second_at, second-set}
 use Rattle.mapping.specs.declared.pairs.Pair.{Pair}
 use Rattle.mapping.specs.declared.lines.Line.{Line}
 use Rattle.mapping.specs.declared.lines.Walk.{Walk}
 use Rattle.mapping.specs.Mapping.{pos_of}
-use Rattle.mapping.specs.Lines.{bit_on, rank_on, spot_on, index_on, copied, on_along, source_in, whole_line, Within, Threaded, Walked, Way, Passed, Ready, part_from}
+use Rattle.mapping.specs.Lines.{bit_on, rank_on, spot_on, index_on, copied, whole_line, Within, Threaded, Walked, Way, Passed, Ready, part_from}
 use Rattle.mapping.specs.Pairs.{caps_in, runs_in, place_in, line_of, Fit, Traced}
 use Rattle.mapping.proofs.PlaceLaws.{pos_up, pos_down, pos_in}
 use Rattle.mapping.proofs.TurnLaws.{place_of-within, place_of-apart}
@@ -26,19 +26,19 @@ use Rattle.mapping.proofs.RunLaws.{in_runs-some}
 
 module _ {l : Line} {at : ℕ} {w : Walk} (c : Walked l at w) where
   -- the index tells whether there is one more
-  pub walked-some : w.cell < 30 * (at + l.bit) + 30 * (l.count * l.step) → w.i < l.count
+  pub walked-some : w.k < at + l.bit + l.count * l.step → w.i < l.count
   walked-some h =
-      split l.count w.i (λ le. let e : w.i ≡ l.count = omega (arith, c.far) in absurd (omega (arith, c.cell, ap (λ (n : ℕ). n * l.step) e)))
+      split l.count w.i (λ le. let e : w.i ≡ l.count = omega (arith, c.far) in absurd (omega (arith, c.index, ap (λ (n : ℕ). n * l.step) e)))
       (λ lt. lt)
 
-  pub walked_ends : 0 < l.step → 30 * (at + l.bit) + 30 * (l.count * l.step) ≤ w.cell → w.i ≡ l.count
+  pub walked_ends : 0 < l.step → at + l.bit + l.count * l.step ≤ w.k → w.i ≡ l.count
   walked_ends p h =
       split l.count w.i (λ le. omega (arith, c.far))
-      (λ lt. let m : suc w.i ≤ l.count = lt in absurd (omega (arith, c.cell, mul-le-mul_right l.step m)))
+      (λ lt. let m : suc w.i ≤ l.count = lt in absurd (omega (arith, c.index, mul-le-mul_right l.step m)))
 
   -- one more is one of a slot's
-  pub walked-inside : {bits places : ℕ} → Within bits places l → w.cell < 30 * (at + l.bit) + 30 * (l.count * l.step) → w.cell < 30 * (at + bits)
-  walked-inside g h = omega (arith, c.cell, g.given w.i (walked-some h))
+  pub walked-inside : {bits places : ℕ} → Within bits places l → w.k < at + l.bit + l.count * l.step → w.k < at + bits
+  walked-inside g h = omega (arith, c.index, g.given w.i (walked-some h))
 
 -- the place of the next bit is one way on
 pub spot_next : {l : Line} {way bits places : ℕ} (i : ℕ) → Way l way → Within bits places l → i + 1 < l.count → (spot_on l i + way) % 18446744073709551616 ≡ spot_on l (i + 1)
@@ -69,7 +69,7 @@ pub walked_more : {l : Line} {at way bits places : ℕ} {w r : Walk} → Way l w
     → Walked l at r
 walked_more {l} {at} {way} {w = w} {r} v g c h p = record {
   far = omega (arith, p.i);
-  cell = rw p.i (omega (arith, c.cell, p.cell));
+  index = rw p.i (omega (arith, c.index, p.k));
   place = λ m. p.place ∙ ap (λ (n : ℕ). (n + way) % 18446744073709551616) (c.place h) ∙ spot_next w.i v g (omega (arith, p.i)) ∙ ap (spot_on l) (sym p.i);
 }
 
@@ -100,10 +100,6 @@ module _ {A : Type 0} {d : A} {from to : ℕ → ℕ} {src : List A} where
     more = λ old q. e ∙ rw (add-one i, a, b, c.more old q);
   }
 
--- a line within a list that is as long as another
-pub within_as : {n p : ℕ} {l m : Line} → l ≡ m → p ≡ n → Within n p m → Within p p l
-within_as k e g = rw (k, e) (rw e at g)
-
 -- a line's numbers fit
 pub within_span : {bits places : ℕ} {l : Line} → Within bits places l → l.count * l.step ≤ bits + 32
 within_span {bits} {places} {l} g =
@@ -116,174 +112,116 @@ within_span {bits} {places} {l} g =
 
 -- ---- copying through step 8
 
--- a line's indices of turn t, each counting 30, up to `last`, and what each comes from
-pub record Turn (n places at : ℕ) (l : Line) (way t shift last : ℕ) : Type 0 where
+-- a line's indices of turn t, up to `last`; they come from every 30th element
+pub record Turn (n places at : ℕ) (l : Line) (way t last : ℕ) : Type 0 where
   pub within : Within places places l
   pub inside : at + places ≤ n
   pub most : n ≤ most_bits
   pub moves : Way l way
   pub number : t < 30
-  pub from : (k : ℕ) → read_before n t ≤ k → 30 * k < last → (30 * k + shift) % 18446744073709551616 ≡ comes_from n k
-  pub ends : (last ≤ 30 * n) × (last ≤ 30 * (at + l.bit) + 30 * (l.count * l.step))
+  pub row : (k m : ℕ) → read_before n t ≤ k → k + m < last → comes_from n (k + m) ≡ comes_from n k + 30 * m
+  pub ends : (last ≤ n) × (last ≤ at + l.bit + l.count * l.step)
 
-pub turn_starts : {n places at : ℕ} {l : Line} {way cell last : ℕ} {s : Seat} {ends shifts : List ℕ} → Within places places l
-    → Threaded n at places ends shifts → Way l way → Seated n cell s → (last ≤ s.end) × (last ≤ 30 * (at + l.bit) + 30 * (l.count * l.step))
-    → Turn n places at l way s.turn s.shift last
+pub turn_starts : {n places at : ℕ} {l : Line} {way k last : ℕ} {s : Seat} {begins columns : List ℕ} → Within places places l
+    → Threaded n at places begins columns → Way l way → Seated n k s → (last ≤ s.end) × (last ≤ at + l.bit + l.count * l.step)
+    → Turn n places at l way s.turn last
 turn_starts g h v e b = record {
   within = g;
   inside = h.inside;
   most = h.most;
   moves = v;
   number = e.turn;
-  from = λ k r q. e.from k r (omega (arith, b));
+  row = λ k m r q. e.row k m r (omega (arith, b));
   ends = (omega (arith, b, e.last), b.1);
 }
 
--- a walk stands within the turn
-pub record Before (n places at : ℕ) (l : Line) (way t shift last : ℕ) (w : Walk) : Type 0 where
-  pub turn : Turn n places at l way t shift last
+-- within the turn: what the walk has passed is copied into u, where j elements were into v
+pub record Copying {A : Type 0} (n places at : ℕ) (l : Line) (way t last : ℕ) (d : A) (from to : ℕ → ℕ) (src : List A) (j : ℕ) (v : List A) (w : Walk) (u : List A) : Type 0 where
+  pub turn : Turn n places at l way t last
   pub walked : Walked l at w
-  pub begun : 30 * read_before n t ≤ w.cell
-
-module _ {n places at : ℕ} {l : Line} {way t shift last : ℕ} {w : Walk} (c : Before n places at l way t shift last w) where
-  pub before_more : {r : Walk} → w.cell < last → Passed l way w r → Before n places at l way t shift last r
-  before_more h p = record {
-    turn = c.turn;
-    walked = walked_more c.turn.moves c.turn.within c.walked (walked-some c.walked (omega (arith, c.turn.ends))) p;
-    begun = omega (arith, c.begun, p.cell);
-  }
-
-  -- or in another turn
-  pub before-turn : {s : Seat} → w.i < l.count → Seated n w.cell s → Before n places at l way s.turn s.shift (w.cell + 1) w
-  before-turn h e = record {
-    turn = record {
-      within = c.turn.within;
-      inside = c.turn.inside;
-      most = c.turn.most;
-      moves = c.turn.moves;
-      number = e.turn;
-      from = λ k r q. e.from k r (omega (arith, e.inside));
-      ends = (omega (arith, e.inside, e.last), omega (arith, c.walked.cell, c.turn.within.some, mul-le-mul_right l.step h));
-    };
-    walked = c.walked;
-    begun = e.begun;
-  }
-
-  module _ (h : w.cell < last) where
-    pub one : w.i < l.count
-    one = walked-some c.walked (omega (arith, c.turn.ends))
-
-    -- the index before which it stands, and what that comes from
-    index_inside : index_on at l w.i < n
-    index_inside = omega (arith, c.walked.cell, c.turn.ends)
-
-    seat-from : source_in shift w ≡ comes_from n (index_on at l w.i)
-    seat-from =
-        ap (λ (x : ℕ). (x + shift) % 18446744073709551616) c.walked.cell
-        ∙ c.turn.from (index_on at l w.i) (omega (arith, c.begun, c.walked.cell)) (omega (arith, c.walked.cell))
-
-    -- where it reads and writes
-    pub before_ready : Ready n places l shift w
-    before_ready =
-        let x = c.turn.within.inside w.i one in
-        record {
-          seat = omega (arith, seat-from, source_below n (index_on at l w.i) index_inside);
-          place = omega (arith, c.walked.place one, c.turn.within.room, x, pos_in l.room (l.p + 1) (rank_on l w.i) x);
-          cell = (omega (arith, c.walked.cell, mul-le-mul_left w.i c.turn.within.some), omega (arith, c.turn.ends));
-          few = (omega (arith, c.turn.most), omega (arith, c.turn.within.few));
-          near = c.turn.within.near.0;
-        }
-
-    seat-is : {A : Type 0} (xs : List A) → length xs ≡ n → source_in shift w ≡ comes_from (length xs) (index_on at l w.i)
-    seat-is xs e = seat-from ∙ ap (λ (m : ℕ). comes_from m (index_on at l w.i)) (sym e)
-
-    -- the bit that it reads is the one that step 8 puts there
-    pub bit_is : {A : Type 0} (d : A) (bits : List A) → length bits ≡ n → get_or bits (source_in shift w) d ≡ get_or (second_interleaved bits) (index_on at l w.i) d
-    bit_is d bits e =
-        ap (λ (i : ℕ). get_or bits i d) (seat-is bits e) ∙ sym (second_at bits (index_on at l w.i) d (omega (arith, index_inside, e)))
-
--- what the walk has passed is copied into u, where j elements were into v
-pub record Copying {A : Type 0} (n places at : ℕ) (l : Line) (way t shift last : ℕ) (d : A) (from to : ℕ → ℕ) (src : List A) (j : ℕ) (v : List A) (w : Walk) (u : List A) : Type 0 where
-  pub before : Before n places at l way t shift last w
+  pub begun : read_before n t ≤ w.k
+  pub comes : w.k < last → w.seat ≡ comes_from n w.k
   pub copied : Copied d from to src j v w.i u
 
-pub copying_starts : {A : Type 0} {n places at : ℕ} {l : Line} {way last : ℕ} {d : A} {from to : ℕ → ℕ} {src : List A} {w : Walk} {s : Seat} (v : List A) → Turn n places at l way s.turn s.shift last → Walked l at w
-    → Seated n w.cell s → Copying n places at l way s.turn s.shift last d from to src w.i v w v
-copying_starts {w = w} v t c e = record { before = record { turn = t; walked = c; begun = e.begun }; copied = copied-same w.i v }
+pub copying_starts : {A : Type 0} {n places at : ℕ} {l : Line} {way last : ℕ} {d : A} {from to : ℕ → ℕ} {src : List A} {w : Walk} {s : Seat} (v : List A) → Turn n places at l way s.turn last → Walked l at w
+    → Seated n w.k s → Copying n places at l way s.turn last d from to src w.i v (record { i = w.i; k = w.k; seat = s.from; place = w.place }) v
+copying_starts {w = w} v t c e = record {
+  turn = t;
+  walked = record { far = c.far; index = c.index; place = c.place };
+  begun = e.begun;
+  comes = λ h. e.from;
+  copied = copied-same w.i v;
+}
 
-module _ {A : Type 0} {n places at : ℕ} {l : Line} {way t shift last : ℕ} {d : A} {from to : ℕ → ℕ} {src : List A} {j : ℕ} {v : List A} {w : Walk} {u : List A} (c : Copying n places at l way t shift last d from to src j v w u) (h : w.cell < last) where
+module _ {A : Type 0} {n places at : ℕ} {l : Line} {way t last : ℕ} {d : A} {from to : ℕ → ℕ} {src : List A} {j : ℕ} {v : List A} {w : Walk} {u : List A} (c : Copying n places at l way t last d from to src j v w u) (h : w.k < last) where
+  one : w.i < l.count
+  one = walked-some c.walked (omega (arith, c.turn.ends))
+
+  -- where it reads and writes
+  pub copying_ready : Ready n places l w
+  copying_ready =
+      let x = c.turn.within.inside w.i one in
+      record {
+        seat = omega (arith, c.comes h, source_below n w.k (omega (arith, c.turn.ends)));
+        place = omega (arith, c.walked.place one, c.turn.within.room, x, pos_in l.room (l.p + 1) (rank_on l w.i) x);
+        index = (omega (arith, c.walked.index, mul-le-mul_left w.i c.turn.within.some), omega (arith, c.turn.ends));
+        few = (omega (arith, c.turn.most), omega (arith, c.turn.within.few));
+        near = c.turn.within.near.0;
+      }
+
   copying_more : {r : Walk} {x : List A} → Passed l way w r → x ≡ set u (to w.i) (get_or src (from w.i) d)
-      → Copying n places at l way t shift last d from to src j v r x
-  copying_more {r} {x} p e = record { before = before_more c.before h p; copied = rw p.i (copied_more c.copied refl refl e) }
+      → Copying n places at l way t last d from to src j v r x
+  copying_more {r} {x} p e = record {
+    turn = c.turn;
+    walked = walked_more c.turn.moves c.turn.within c.walked one p;
+    begun = omega (arith, c.begun, p.k);
+    comes = λ m. p.seat ∙ omega (arith, c.comes h, c.turn.row w.k l.step c.begun (omega (arith, p.k))) ∙ ap (comes_from n) (sym p.k);
+    copied = rw p.i (copied_more c.copied refl refl e);
+  }
 
--- the walk one bit on
-pub on-passed : (l : Line) (way : ℕ) (w : Walk) → Passed l way w (on_along l way w)
-on-passed l way w = record { i = refl; cell = refl; place = refl }
+  seat-is : (xs : List A) → length xs ≡ n → w.seat ≡ comes_from (length xs) w.k
+  seat-is xs e = c.comes h ∙ ap (λ (m : ℕ). comes_from m w.k) (sym e)
 
 -- bits are put from the walk's seat to its place
-pub record Putting {A : Type 0} (at : ℕ) (l : Line) (way t shift last : ℕ) (d : A) (bits : List A) (j : ℕ) (v : List A) (w : Walk) (u : List A) : Type 0 where
-  pub copying : Copying (length bits) (length v) at l way t shift last d (index_on at l) (spot_on l) (second_interleaved bits) j v w u
+pub record Putting {A : Type 0} (at : ℕ) (l : Line) (way t last : ℕ) (d : A) (bits : List A) (j : ℕ) (v : List A) (w : Walk) (u : List A) : Type 0 where
+  pub copying : Copying (length bits) (length v) at l way t last d (index_on at l) (spot_on l) (second_interleaved bits) j v w u
 
-module _ {A : Type 0} {at : ℕ} {l : Line} {way t shift last : ℕ} {d : A} {bits : List A} {j : ℕ} {v : List A} {w : Walk} {u : List A}
-    (p : Putting at l way t shift last d bits j v w u) (h : w.cell < last) where
-  pub put_ready : Ready (length bits) (length u) l shift w
-  put_ready = rw p.copying.copied.long (before_ready p.copying.before h)
+module _ {A : Type 0} {at : ℕ} {l : Line} {way t last : ℕ} {d : A} {bits : List A} {j : ℕ} {v : List A} {w : Walk} {u : List A}
+    (p : Putting at l way t last d bits j v w u) (h : w.k < last) where
+  pub put_ready : Ready (length bits) (length u) l w
+  put_ready = rw p.copying.copied.long (copying_ready p.copying h)
 
-  pub put_more : {r : Walk} {x : List A} → Passed l way w r → x ≡ set u w.place (get_or bits (source_in shift w) d) → Putting at l way t shift last d bits j v r x
+  pub put_more : {r : Walk} {x : List A} → Passed l way w r → x ≡ set u w.place (get_or bits w.seat d) → Putting at l way t last d bits j v r x
   put_more q e =
-      let b = p.copying.before in
-      record { copying = copying_more p.copying h q (e ∙ ap₂ (λ (i : ℕ) (x : A). set u i x) (b.walked.place (one b h)) (bit_is b h d bits refl)) }
-
--- two bits, the second of them before the turn's end too
-module _ {A : Type 0} {at : ℕ} {l : Line} {way t shift last : ℕ} {d : A} {bits : List A} {j : ℕ} {v : List A} {w : Walk} {u : List A}
-    (p : Putting at l way t shift last d bits j v w u) (h : w.cell + 30 * l.step < last) where
-  put_first : Putting at l way t shift last d bits j v (on_along l way w) (set u w.place (get_or bits (source_in shift w) d))
-  put_first = put_more p (omega arith) (on-passed l way w) refl
-
-  pub put_both : Ready (length bits) (length u) l shift w × Ready (length bits) (length u) l shift (on_along l way w)
-  put_both = (put_ready p (omega arith), rw (length-set u w.place (get_or bits (source_in shift w) d)) at (put_ready put_first h))
-
-  pub put_two-more : {r : Walk} {x : List A} → Passed l way (on_along l way w) r
-      → x ≡ set (set u w.place (get_or bits (source_in shift w) d)) (on_along l way w).place (get_or bits (source_in shift (on_along l way w)) d)
-      → Putting at l way t shift last d bits j v r x
-  put_two-more q e = put_more put_first h q e
+      let c = p.copying in
+      let k : w.k < length bits = omega (arith, c.turn.ends) in
+      let y : get_or bits w.seat d ≡ get_or (second_interleaved bits) (index_on at l w.i) d =
+      ap (λ (i : ℕ). get_or bits i d) (seat-is c h bits refl) ∙ sym (second_at bits w.k d k) ∙ ap (λ (i : ℕ). get_or (second_interleaved bits) i d) c.walked.index in
+      record { copying = copying_more c h q (e ∙ ap₂ (λ (i : ℕ) (x : A). set u i x) (c.walked.place (one c h)) y) }
 
 -- soft values are taken from its place to its seat
-pub record Taking {A : Type 0} (n at : ℕ) (l : Line) (way t shift last : ℕ) (d : A) (frame : List A) (j : ℕ) (v : List A) (w : Walk) (u : List A) : Type 0 where
-  pub copying : Copying n (length frame) at l way t shift last d (spot_on l) (index_on at l) frame j (second_interleaved v) w (second_interleaved u)
+pub record Taking {A : Type 0} (n at : ℕ) (l : Line) (way t last : ℕ) (d : A) (frame : List A) (j : ℕ) (v : List A) (w : Walk) (u : List A) : Type 0 where
+  pub copying : Copying n (length frame) at l way t last d (spot_on l) (index_on at l) frame j (second_interleaved v) w (second_interleaved u)
   pub long : length u ≡ n
 
-module _ {A : Type 0} {n at : ℕ} {l : Line} {way t shift last : ℕ} {d : A} {frame : List A} {j : ℕ} {v : List A} {w : Walk} {u : List A}
-    (p : Taking n at l way t shift last d frame j v w u) (h : w.cell < last) where
-  pub take_ready : Ready (length u) (length frame) l shift w
-  take_ready = rw p.long (before_ready p.copying.before h)
+module _ {A : Type 0} {n at : ℕ} {l : Line} {way t last : ℕ} {d : A} {frame : List A} {j : ℕ} {v : List A} {w : Walk} {u : List A}
+    (p : Taking n at l way t last d frame j v w u) (h : w.k < last) where
+  pub take_ready : Ready (length u) (length frame) l w
+  take_ready = rw p.long (copying_ready p.copying h)
 
-  pub take_more : {r : Walk} {x : List A} → Passed l way w r → x ≡ set u (source_in shift w) (get_or frame w.place d) → Taking n at l way t shift last d frame j v r x
+  pub take_more : {r : Walk} {x : List A} → Passed l way w r → x ≡ set u w.seat (get_or frame w.place d) → Taking n at l way t last d frame j v r x
   take_more q e =
-      let b = p.copying.before in
+      let c = p.copying in
       let y = get_or frame w.place d in
       record {
         copying =
-            copying_more p.copying h q
+            copying_more c h q
             (ap second_interleaved e
-            ∙ ap (λ (i : ℕ). second_interleaved (set u i y)) (seat-is b h u p.long)
-            ∙ second-set u (index_on at l w.i) y (omega (arith, index_inside b h, p.long))
-            ∙ ap (λ (i : ℕ). set (second_interleaved u) (index_on at l w.i) (get_or frame i d)) (b.walked.place (one b h)));
-        long = ap length e ∙ length-set u (source_in shift w) y ∙ p.long;
+            ∙ ap (λ (i : ℕ). second_interleaved (set u i y)) (seat-is c h u p.long)
+            ∙ second-set u w.k y (omega (arith, c.turn.ends, p.long))
+            ∙ ap₂ (λ (k i : ℕ). set (second_interleaved u) k (get_or frame i d)) c.walked.index (c.walked.place (one c h)));
+        long = ap length e ∙ length-set u w.seat y ∙ p.long;
       }
-
-module _ {A : Type 0} {n at : ℕ} {l : Line} {way t shift last : ℕ} {d : A} {frame : List A} {j : ℕ} {v : List A} {w : Walk} {u : List A}
-    (p : Taking n at l way t shift last d frame j v w u) (h : w.cell + 30 * l.step < last) where
-  take-first : Taking n at l way t shift last d frame j v (on_along l way w) (set u (source_in shift w) (get_or frame w.place d))
-  take-first = take_more p (omega arith) (on-passed l way w) refl
-
-  pub take_both : Ready (length u) (length frame) l shift w × Ready (length u) (length frame) l shift (on_along l way w)
-  take_both = (take_ready p (omega arith), rw (length-set u (source_in shift w) (get_or frame w.place d)) at (take_ready take-first h))
-
-  pub take-two-more : {r : Walk} {x : List A} → Passed l way (on_along l way w) r
-      → x ≡ set (set u (source_in shift w) (get_or frame w.place d)) (source_in shift (on_along l way w)) (get_or frame (on_along l way w).place d)
-      → Taking n at l way t shift last d frame j v r x
-  take-two-more q e = take_more take-first h q e
 
 -- ---- a part of a longer list
 
@@ -294,10 +232,6 @@ set_append_right (x ∷ xs) ys i a =
 
 pub part_length : {A : Type 0} (w : List A) (at n : ℕ) → at + n ≤ length w → length (part_from at n w) ≡ n
 part_length w at n b = length-take-le n (drop at w) (omega (arith, length-drop at w))
-
--- the bits of a slot are as many as its places
-pub slot-length : {A : Type 0} (xs : List A) (at n : ℕ) → at + n ≤ length xs → length (part_from at n (second_interleaved xs)) ≡ n
-slot-length xs at n b = part_length (second_interleaved xs) at n (omega (arith, second-length xs, b))
 
 module _ {A : Type 0} (d : A) (from to : ℕ → ℕ) (at n : ℕ) where
   -- what is read of a part
@@ -430,7 +364,7 @@ module _ {t : Pair} (f : Fit t) where
   place_inside : (k : ℕ) → k < t.u + t.v → place_in t k < t.u + t.v
   place_inside k h = rw (← pair_total) (place_of-within (caps_in t) (runs_in t) 2 pair_runs k (rw pair_total h))
 
-  pub place_other : (j k : ℕ) → j < t.u + t.v → k < t.u + t.v → place_in t j ≡ place_in t k → j ≡ k
+  place_other : (j k : ℕ) → j < t.u + t.v → k < t.u + t.v → place_in t j ≡ place_in t k → j ≡ k
   place_other j k h l = place_of-apart (caps_in t) (runs_in t) 2 pair_runs j k (rw pair_total h) (rw pair_total l)
 
   module _ {A : Type 0} {d : A} {bits w : List A} where

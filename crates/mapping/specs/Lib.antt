@@ -3,5 +3,3 @@ pub mod Strides
 pub mod Runs
 pub mod Lines
 pub mod Pairs
-pub mod Both
-pub mod Rounds

@@ -2,6 +2,7 @@
 -- of the slot is the one that step 8 puts to index at + k.
 use Rattle.std.specs.Prelude.{◌≡◌, ℕ, zero, suc, ◌+◌, ◌-◌, ◌*◌, ◌%◌, ◌<◌, ◌≤◌, List, take, drop, ◌≢◌, slice_index_or, slice_set}
 use Rattle.sheet.specs.Counts.{most_bits}
+use Rattle.orders.specs.Orders.{order}
 use Rattle.interleaving.specs.Turns.{Turned}
 use Rattle.mapping.specs.Mapping.{pos_of}
 use Rattle.mapping.specs.declared.lines.Line.{Line}
@@ -37,10 +38,10 @@ pub record Within (bits places : ℕ) (l : Line) : Type 0 where
   pub near : (l.step ≤ 32) × (l.apart ≤ 16)
   pub some : 0 < l.step
 
--- a walk stands before a bit of a line, or after its last; each index counts 30
+-- a walk stands before a bit of a line, or after its last
 pub record Walked (l : Line) (at : ℕ) (w : Walk) : Type 0 where
   pub far : w.i ≤ l.count
-  pub cell : w.cell ≡ 30 * index_on at l w.i
+  pub index : w.k ≡ index_on at l w.i
   pub place : w.i < l.count → w.place ≡ spot_on l w.i
 
 -- how far the places move from one bit to the next, modulo 2^64, where they go up and where they go down
@@ -51,22 +52,15 @@ pub record Way (l : Line) (way : ℕ) : Type 0 where
 -- the walk moves from w to r
 pub record Passed (l : Line) (way : ℕ) (w r : Walk) : Type 0 where
   pub i : r.i ≡ w.i + 1
-  pub cell : r.cell ≡ w.cell + 30 * l.step
+  pub k : r.k ≡ w.k + l.step
+  pub seat : r.seat ≡ w.seat + 30 * l.step
   pub place : r.place ≡ (w.place + way) % 18446744073709551616
 
--- where it stands one bit on
-abbrev pub on_along : Line → ℕ → Walk → Walk
-on_along l way w = record { i = w.i + 1; cell = w.cell + 30 * l.step; place = (w.place + way) % 18446744073709551616 }
-
--- the element that it stands before, in a turn of such a shift
-abbrev pub source_in : ℕ → Walk → ℕ
-source_in shift w = (w.cell + shift) % 18446744073709551616
-
 -- it stands before one of so many bits and places, and can move on
-pub record Ready (bits places : ℕ) (l : Line) (shift : ℕ) (w : Walk) : Type 0 where
-  pub seat : source_in shift w < bits
+pub record Ready (bits places : ℕ) (l : Line) (w : Walk) : Type 0 where
+  pub seat : w.seat < bits
   pub place : w.place < places
-  pub cell : (w.i ≤ w.cell) × (w.cell < 30 * bits)
+  pub index : (w.i ≤ w.k) × (w.k < bits)
   pub few : (bits < 4294967296) × (places < 4294967296)
   pub near : l.step ≤ 32
 
@@ -82,8 +76,9 @@ abbrev pub short_slot : ℕ
 short_slot = 512
 
 -- the n bits of a slot are those from index `at` on of K elements, whose turns in step 8 are known
-pub record Threaded (K at n : ℕ) (ends shifts : List ℕ) : Type 0 where
-  pub turned : Turned K ends shifts
+pub record Threaded (K at n : ℕ) (begins columns : List ℕ) : Type 0 where
+  pub begun : Turned K begins
+  pub ordered : columns ≡ order
   pub inside : at + n ≤ K
   pub most : K ≤ most_bits
 

@@ -11,16 +11,12 @@ ghost use Rattle.interleaving.specs.Second.{second_interleaved};
 ghost use Rattle.sheet.specs.Counts.{most_bits};
 ghost use borrow.Rule.Slice.PartMut.{put_mid};
 
-mod both;
 mod lines;
 mod pairs;
-mod rounds;
 mod short;
 
-use both::{is_beside, put_both};
-use interleaving::second::lay_turns;
+use interleaving::second::begin_turns;
 use lines::{Line, put_line, take_line};
-use rounds::{is_threefold, map_threefold};
 use short::{FEW, SHORT};
 
 // How many bits PhCH 1 takes at its turn, and how many the others do.
@@ -244,53 +240,44 @@ fn line_along(m: Mark, r: Stretch) -> Line
     }
 }
 
-// Maps the bits of a slot, one at a time to each PhCH that has room: along two stretches at once where their bits are neighbours.
+// Maps the bits of a slot, one at a time to each PhCH that has room.
 fn map_ones(
     bits: &[u8],
-    ends: &[usize; 30],
-    shifts: &[usize; 30],
+    begins: &[usize; 31],
+    columns: &[u8; 30],
     at: usize,
     caps: &[u16],
     frame: &mut [u8],
 )
-    requires { Slot caps.now (length frame.old) (length frame.old) × (length caps.now ≤ 16) × Threaded (length bits.now) at (length frame.old) ends.now shifts.now }
+    requires { Slot caps.now (length frame.old) (length frame.old) × (length caps.now ≤ 16) × Threaded (length bits.now) at (length frame.old) begins.now columns.now }
     ensures { frame.new ≡ slot_of ones caps.now (part_from at (length frame.old) (second_interleaved bits.now)) frame.old }
 {
     let mut m = start(caps);
     while m.p < caps.len() {
         let r = stretch_from(caps, m);
         let l = line_along(m, r);
+        put_line(bits, begins, columns, at, l, frame);
         m = onward(caps, m, r, m.k + l.count * r.stride);
-        if m.p < caps.len() {
-            let s = stretch_from(caps, m);
-            let n = line_along(m, s);
-            if l.base + l.room <= n.base && is_beside(l, n) {
-                put_both(bits, ends, shifts, at, l, n, frame);
-                m = onward(caps, m, s, m.k + n.count * s.stride);
-                continue;
-            }
-        }
-        put_line(bits, ends, shifts, at, l, frame);
     }
 }
 
 // Takes the soft values of such a slot back to where its bits came from.
 fn unmap_ones(
     frame: &[f32],
-    ends: &[usize; 30],
-    shifts: &[usize; 30],
+    begins: &[usize; 31],
+    columns: &[u8; 30],
     at: usize,
     caps: &[u16],
     values: &mut [f32],
 )
-    requires { Slot caps.now (length frame.now) (length frame.now) × (length caps.now ≤ 16) × Threaded (length values.old) at (length frame.now) ends.now shifts.now }
+    requires { Slot caps.now (length frame.now) (length frame.now) × (length caps.now ≤ 16) × Threaded (length values.old) at (length frame.now) begins.now columns.now }
     ensures { second_interleaved values.new ≡ put_mid at (length frame.now) (second_interleaved values.old) (slot_undone ones caps.now nan frame.now) }
 {
     let mut m = start(caps);
     while m.p < caps.len() {
         let r = stretch_from(caps, m);
         let l = line_along(m, r);
-        take_line(frame, ends, shifts, at, l, values);
+        take_line(frame, begins, columns, at, l, values);
         m = onward(caps, m, r, m.k + l.count * r.stride);
     }
 }
@@ -301,27 +288,17 @@ pub fn map_slot(bits: &[u8], at: usize, caps: &[u16], runs: Runs, frame: &mut [u
     requires { Coded caps.now runs.first runs.other (length frame.old) (length frame.old) × (at + length frame.old ≤ length bits.now) × (length bits.now ≤ most_bits) }
     ensures { frame.new ≡ slot_of (in_runs runs.first runs.other) caps.now (part_from at (length frame.old) (second_interleaved bits.now)) frame.old }
 {
-    // Step 9 moves nothing where one PhCH has all that step 8 interleaves.
-    if caps.len() == 1 && frame.len() == bits.len() {
-        interleaving::whole::interleave(bits, frame);
-        return;
-    }
-    if frame.len() == bits.len() && is_threefold(caps) {
-        map_threefold(bits, caps, frame);
-        return;
-    }
-    let mut ends = [0usize; 30];
-    let mut shifts = [0usize; 30];
-    lay_turns(bits.len(), &mut ends, &mut shifts);
+    let begins = begin_turns(bits.len());
+    let order = orders::columns();
     if runs.first + runs.other != 2 {
-        pairs::map_pair(bits, &ends, &shifts, at, caps, runs, frame);
+        pairs::map_pair(bits, &begins, &order, at, caps, runs, frame);
         return;
     }
     if frame.len() <= SHORT && bits.len() < FEW * caps.len() {
-        short::map_short(bits, &ends, &shifts, at, caps, frame);
+        short::map_short(bits, &begins, &order, at, caps, frame);
         return;
     }
-    map_ones(bits, &ends, &shifts, at, caps, frame);
+    map_ones(bits, &begins, &order, at, caps, frame);
 }
 
 // Takes the soft values of a slot back to where its bits came from; the other values stay as they are.
@@ -329,22 +306,17 @@ pub fn unmap_slot(frame: &[f32], caps: &[u16], runs: Runs, at: usize, values: &m
     requires { Coded caps.now runs.first runs.other (length frame.now) (length frame.now) × (at + length frame.now ≤ length values.old) × (length values.old ≤ most_bits) }
     ensures { second_interleaved values.new ≡ put_mid at (length frame.now) (second_interleaved values.old) (slot_undone (in_runs runs.first runs.other) caps.now nan frame.now) }
 {
-    if caps.len() == 1 && frame.len() == values.len() {
-        interleaving::whole::undo(frame, values);
-        return;
-    }
-    let mut ends = [0usize; 30];
-    let mut shifts = [0usize; 30];
-    lay_turns(values.len(), &mut ends, &mut shifts);
+    let begins = begin_turns(values.len());
+    let order = orders::columns();
     if runs.first + runs.other != 2 {
-        pairs::unmap_pair(frame, &ends, &shifts, at, caps, runs, values);
+        pairs::unmap_pair(frame, &begins, &order, at, caps, runs, values);
         return;
     }
     if frame.len() <= SHORT && values.len() < FEW * caps.len() {
-        short::unmap_short(frame, &ends, &shifts, at, caps, values);
+        short::unmap_short(frame, &begins, &order, at, caps, values);
         return;
     }
-    unmap_ones(frame, &ends, &shifts, at, caps, values);
+    unmap_ones(frame, &begins, &order, at, caps, values);
 }
 
 // Which of a PhCH's u bits, counted from 0, stands at its place, counted from 1: the undoing of `spot`.

@@ -10,7 +10,6 @@ ghost use Rattle.mapping.specs.Lines.{Threaded, part_from};
 ghost use Rattle.interleaving.specs.Second.{second_interleaved};
 ghost use borrow.Rule.Slice.PartMut.{put_mid};
 
-use crate::both::{is_beside, put_both};
 use crate::lines::{Line, put_line, take_line};
 use crate::{Runs, capacity, lesser, whole_runs};
 
@@ -148,17 +147,17 @@ fn line_of(t: Pair, j: usize) -> Line
     }
 }
 
-// Maps the bits of such a slot, along two lines at once where their bits are neighbours.
+// Maps the bits of such a slot.
 pub fn map_pair(
     bits: &[u8],
-    ends: &[usize; 30],
-    shifts: &[usize; 30],
+    begins: &[usize; 31],
+    columns: &[u8; 30],
     at: usize,
     caps: &[u16],
     runs: Runs,
     frame: &mut [u8],
 )
-    requires { Paired caps.now runs.first runs.other (length frame.old) (length frame.old) × Threaded (length bits.now) at (length frame.old) ends.now shifts.now }
+    requires { Paired caps.now runs.first runs.other (length frame.old) (length frame.old) × Threaded (length bits.now) at (length frame.old) begins.now columns.now }
     ensures { frame.new ≡ slot_of (in_runs runs.first runs.other) caps.now (part_from at (length frame.old) (second_interleaved bits.now)) frame.old }
 {
     let t = pair_of(caps, runs);
@@ -166,30 +165,22 @@ pub fn map_pair(
     let mut j: usize = 0;
     while j < n {
         let l = line_of(t, j);
+        put_line(bits, begins, columns, at, l, frame);
         j += 1;
-        if j < n {
-            let m = line_of(t, j);
-            if 1 < l.step && is_beside(l, m) {
-                put_both(bits, ends, shifts, at, l, m, frame);
-                j += 1;
-                continue;
-            }
-        }
-        put_line(bits, ends, shifts, at, l, frame);
     }
 }
 
 // Takes the soft values of such a slot back to where its bits came from.
 pub fn unmap_pair(
     frame: &[f32],
-    ends: &[usize; 30],
-    shifts: &[usize; 30],
+    begins: &[usize; 31],
+    columns: &[u8; 30],
     at: usize,
     caps: &[u16],
     runs: Runs,
     values: &mut [f32],
 )
-    requires { Paired caps.now runs.first runs.other (length frame.now) (length frame.now) × Threaded (length values.old) at (length frame.now) ends.now shifts.now }
+    requires { Paired caps.now runs.first runs.other (length frame.now) (length frame.now) × Threaded (length values.old) at (length frame.now) begins.now columns.now }
     ensures { second_interleaved values.new ≡ put_mid at (length frame.now) (second_interleaved values.old) (slot_undone (in_runs runs.first runs.other) caps.now nan frame.now) }
 {
     let t = pair_of(caps, runs);
@@ -197,7 +188,7 @@ pub fn unmap_pair(
     let mut j: usize = 0;
     while j < n {
         let l = line_of(t, j);
-        take_line(frame, ends, shifts, at, l, values);
+        take_line(frame, begins, columns, at, l, values);
         j += 1;
     }
 }

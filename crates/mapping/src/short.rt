@@ -94,67 +94,67 @@ fn unmap_laid(frame: &[f32], caps: &[u16], bits: &mut [f32])
 // Steps 8 and 9, the slot's bits in a room that is lent.
 fn map_between(
     bits: &[u8],
-    ends: &[usize; 30],
-    shifts: &[usize; 30],
+    begins: &[usize; 31],
+    columns: &[u8; 30],
     at: usize,
     caps: &[u16],
     room: &mut [u8],
     frame: &mut [u8],
 )
-    requires { Slot caps.now (length frame.old) (length frame.old) × (length caps.now ≤ 16) × (length frame.old ≤ length room.old) × Threaded (length bits.now) at (length frame.old) ends.now shifts.now }
+    requires { Slot caps.now (length frame.old) (length frame.old) × (length caps.now ≤ 16) × (length frame.old ≤ length room.old) × Threaded (length bits.now) at (length frame.old) begins.now columns.now }
     ensures { frame.new ≡ slot_of ones caps.now (part_from at (length frame.old) (second_interleaved bits.now)) frame.old }
 {
     let n = frame.len();
-    put_line(bits, ends, shifts, at, whole_line(n), &mut room[..n]);
+    put_line(bits, begins, columns, at, whole_line(n), &mut room[..n]);
     map_laid(&room[..n], caps, frame);
 }
 
 // Both undone.
 fn unmap_between(
     frame: &[f32],
-    ends: &[usize; 30],
-    shifts: &[usize; 30],
+    begins: &[usize; 31],
+    columns: &[u8; 30],
     at: usize,
     caps: &[u16],
     room: &mut [f32],
     values: &mut [f32],
 )
-    requires { Slot caps.now (length frame.now) (length frame.now) × (length caps.now ≤ 16) × (length frame.now ≤ length room.old) × Threaded (length values.old) at (length frame.now) ends.now shifts.now }
+    requires { Slot caps.now (length frame.now) (length frame.now) × (length caps.now ≤ 16) × (length frame.now ≤ length room.old) × Threaded (length values.old) at (length frame.now) begins.now columns.now }
     ensures { second_interleaved values.new ≡ put_mid at (length frame.now) (second_interleaved values.old) (slot_undone ones caps.now nan frame.now) }
 {
     let n = frame.len();
     unmap_laid(frame, caps, &mut room[..n]);
-    take_line(&room[..n], ends, shifts, at, whole_line(n), values);
+    take_line(&room[..n], begins, columns, at, whole_line(n), values);
 }
 
 // Maps the bits of such a slot.
 pub fn map_short(
     bits: &[u8],
-    ends: &[usize; 30],
-    shifts: &[usize; 30],
+    begins: &[usize; 31],
+    columns: &[u8; 30],
     at: usize,
     caps: &[u16],
     frame: &mut [u8],
 )
-    requires { Slot caps.now (length frame.old) (length frame.old) × (length caps.now ≤ 16) × (length frame.old ≤ short_slot) × Threaded (length bits.now) at (length frame.old) ends.now shifts.now }
+    requires { Slot caps.now (length frame.old) (length frame.old) × (length caps.now ≤ 16) × (length frame.old ≤ short_slot) × Threaded (length bits.now) at (length frame.old) begins.now columns.now }
     ensures { frame.new ≡ slot_of ones caps.now (part_from at (length frame.old) (second_interleaved bits.now)) frame.old }
 {
     let mut room = [0u8; SHORT];
-    map_between(bits, ends, shifts, at, caps, &mut room, frame);
+    map_between(bits, begins, columns, at, caps, &mut room, frame);
 }
 
 // Takes the soft values of such a slot back to where its bits came from.
 pub fn unmap_short(
     frame: &[f32],
-    ends: &[usize; 30],
-    shifts: &[usize; 30],
+    begins: &[usize; 31],
+    columns: &[u8; 30],
     at: usize,
     caps: &[u16],
     values: &mut [f32],
 )
-    requires { Slot caps.now (length frame.now) (length frame.now) × (length caps.now ≤ 16) × (length frame.now ≤ short_slot) × Threaded (length values.old) at (length frame.now) ends.now shifts.now }
+    requires { Slot caps.now (length frame.now) (length frame.now) × (length caps.now ≤ 16) × (length frame.now ≤ short_slot) × Threaded (length values.old) at (length frame.now) begins.now columns.now }
     ensures { second_interleaved values.new ≡ put_mid at (length frame.now) (second_interleaved values.old) (slot_undone ones caps.now nan frame.now) }
 {
     let mut room = [1.0f32; SHORT];
-    unmap_between(frame, ends, shifts, at, caps, &mut room, values);
+    unmap_between(frame, begins, columns, at, caps, &mut room, values);
 }

@@ -60,9 +60,9 @@ module _ (sh : Sheet) (ok : Accepted sh) (frame : ℕ) where
       let s = source_passes (change_of sh i) (size_of sh i) (share_of sh i) (start_at sh frame i) (x - cut_of sh i) (rates sh ok frame i) p.share in
       omega (arith, p.from, s.low)
 
-  pub index_apart : (x y : ℕ) → x < capacity_all sh → y < capacity_all sh → name_at sh frame x ≡ name_at sh frame y → x ≡ y
+  pub index-apart : (x y : ℕ) → x < capacity_all sh → y < capacity_all sh → name_at sh frame x ≡ name_at sh frame y → x ≡ y
   unfolding name_at
-  index_apart x y h k e =
+  index-apart x y h k e =
       let c : channel_of sh x ≡ channel_of sh y = omega (arith, ap (λ (n : Name). n.channel) e) in
       let b : bit_number sh frame (channel_of sh x) (segment_bit sh frame x) ≡ bit_number sh frame (channel_of sh y) (segment_bit sh frame y) =
       omega (arith, ap (λ (n : Name). n.bit) e) in
@@ -134,7 +134,7 @@ module _ (sh : Sheet) (ok : Accepted sh) (frame g s p i h t q j : ℕ) (a : Exis
   unfolding name_of multiplexed_at
   apart e =
       let x : multiplexed_at sh g s p i ≡ multiplexed_at sh h t q j =
-      index_apart sh ok frame (multiplexed_at sh g s p i) (multiplexed_at sh h t q j) (index_below sh g s p i a) (index_below sh h t q j b) e in
+      index-apart sh ok frame (multiplexed_at sh g s p i) (multiplexed_at sh h t q j) (index_below sh g s p i a) (index_below sh h t q j b) e in
       let w =
       read_apart sh (g - 1) (h - 1) (s - 1) (t - 1) (slot_bit_at sh (s - 1) (p - 1) i) (slot_bit_at sh (t - 1) (q - 1) j) (subframe_in sh g s p i a) (subframe_in sh h t q j b) (slot_in sh g s p i a) (slot_in sh h t q j b)
       (number_in sh g s p i a) (number_in sh h t q j b) x in

@@ -150,9 +150,9 @@ index_onto sh x h =
     }
 
 -- and every place stands at an index of the frame
-pub index_inside : (sh : Sheet) (subframe slot phch place : ℕ) → Exists sh subframe slot phch place → index_of sh subframe slot phch place < capacity_all sh
+pub index-inside : (sh : Sheet) (subframe slot phch place : ℕ) → Exists sh subframe slot phch place → index_of sh subframe slot phch place < capacity_all sh
 unfolding index_of
-index_inside sh subframe slot phch place w =
+index-inside sh subframe slot phch place w =
     omega (
       arith,
       slot-room sh (slot - 1) (Slots.slot_in sh subframe slot phch place w) (subframe - 1) (Slots.subframe_in sh subframe slot phch place w),

@@ -9,9 +9,9 @@ use lib.ListN.{length, get_or, take, drop, length-append, get_or-append}
 use lib.Seq.{get_or-append-add, take_at, drop_at, drop-drop}
 use Rattle.laws.specs.Sums.{sum_to}
 use Rattle.laws.specs.Tables.{table}
-use Rattle.laws.proofs.SumLaws.{sum-shift}
+use Rattle.laws.proofs.SumLaws.{sum_shift}
 use Rattle.laws.proofs.PartLaws.{table-map}
-use Rattle.laws.proofs.TableLaws.{table-length, table_get, table-shift}
+use Rattle.laws.proofs.TableLaws.{table-length, table_get, table_shift}
 use Rattle.pattern.specs.Pattern.{again, grown, copies_at, after, walked, copies_from, shared_from, as_is}
 use Rattle.pattern.proofs.CountLaws.{again-more, grown_yes, grown_no}
 
@@ -19,7 +19,7 @@ use Rattle.pattern.proofs.CountLaws.{again-more, grown_yes, grown_no}
 pub first-apart : (less : Bool) (P D e m : ℕ)
     → sum_to (copies_from less P D e) (suc m) ≡ copies_at less P D e + sum_to (copies_from less P D (after less P D e)) m
 unfolding copies_from
-first-apart less P D e m = sum-shift (copies_from less P D e) m
+first-apart less P D e m = sum_shift (copies_from less P D e) m
 
 module _ {A B : Type 0} (f : A → ℕ → B) (less : Bool) (P D : ℕ) where
   -- as many come out as the bits have copies
@@ -116,4 +116,4 @@ walked_more {A} P D e x xs hp he h =
     let a = again D P D (e + P) in
     let q : e + suc a * P - D ≡ e + P + a * P - D = omega (arith, suc-mul a P) in
     rw (again-more P D e hp he h, q)
-    (ap (λ (l : List A). x ∷ (x ∷ l ++ walked as_is false P D (e + P + a * P - D) xs)) (table-shift (as_is x) 1 a))
+    (ap (λ (l : List A). x ∷ (x ∷ l ++ walked as_is false P D (e + P + a * P - D) xs)) (table_shift (as_is x) 1 a))

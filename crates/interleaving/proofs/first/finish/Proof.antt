@@ -1,4 +1,10 @@
-use Rattle.std.proofs.Common.{ℕ, ◌-◌, ◌*◌, ◌<◌, ◌≤◌, List, length, get_or, sym, ap, ◌∙◌, mul-le-mul_right, arith, rules}
+use borrow.Author.Rules.{rules}
+use native.Mathlib.Omega.{arith}
+use mathlib.Core.Path.{sym, ap, ◌∙◌}
+use mathlib.Core.List.{List}
+use Prim.Native.Nat.{ℕ, ◌*◌, ◌-◌, ◌≤◌, ◌<◌}
+use native.Mathlib.Nat.{mul-le-mul_right}
+use lib.ListN.{length, get_or}
 use Rattle.sheet.specs.Sizes.{frames_in}
 use Rattle.orders.specs.Orders.{column_at}
 use Rattle.interleaving.proofs.FinishWalk.{Settled, Laying, starts, resized, enters, long, reads_in, put, leaves, ends}

@@ -1,5 +1,7 @@
-use Rattle.std.proofs.Common.{refl, arith, rules}
+use native.Mathlib.Omega.{arith}
+use mathlib.Core.Path.{refl}
 use Rattle.orders.proofs.OrderLaws.{order-turn}
+use borrow.Author.Rules.{rules}
 use Rattle.interleaving.proofs.second.column_at.Statement.{statement}
 use Rattle.interleaving.proofs.second.column_at.Tie as tie
 

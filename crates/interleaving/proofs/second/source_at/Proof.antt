@@ -1,4 +1,7 @@
-use Rattle.std.proofs.Common.{◌≡◌, ℕ, ◌+◌, ◌-◌, ◌*◌, ◌<◌, arith, rules}
+use borrow.Author.Rules.{rules}
+use native.Mathlib.Omega.{arith}
+use mathlib.Core.Path.{◌≡◌}
+use Prim.Native.Nat.{ℕ, ◌+◌, ◌*◌, ◌-◌, ◌<◌}
 use Rattle.interleaving.specs.Second.{comes_from}
 use Rattle.interleaving.proofs.SecondLaws.{source_below}
 use Rattle.interleaving.proofs.SecondWalk.{Passing, passing_starts, passing_more, passing_next, passing_ends}

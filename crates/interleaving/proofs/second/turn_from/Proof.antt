@@ -1,17 +1,22 @@
-use Rattle.std.proofs.Common.{◌-◌, ◌*◌, ◌<◌, ◌≤◌, arith, rules}
+use borrow.Author.Rules.{rules}
+use native.Mathlib.Omega.{arith}
+use Prim.Native.Nat.{◌+◌, ◌-◌, ◌≤◌, ◌<◌}
 use Rattle.interleaving.specs.Second.{read_before}
 use Rattle.interleaving.proofs.SecondWalk.{turn_more}
 use Rattle.interleaving.proofs.second.turn_from.Statement.{statement}
 use Rattle.interleaving.proofs.second.turn_from.Tie as tie
 
 abbrev invariant-loop : tie.invariant-loop
-invariant-loop ends shifts n t cell r₀ r = (r < 30) × (30 * read_before n r ≤ cell)
+invariant-loop begins n t k r₀ r = (r < 30) × (read_before n r ≤ k)
 
 abbrev decreases-loop : tie.decreases-loop
-decreases-loop ends shifts n t cell r₀ r = 30 - r
+decreases-loop begins n t k r₀ r = 30 - r
 
 loop-holds : tie.Need-loop-init invariant-loop decreases-loop
 loop-holds c = search rules
+
+add-if1 : tie.Need-overflow-add-if1 invariant-loop decreases-loop
+add-if1 c = omega arith
 
 mul-if1 : tie.Need-overflow-mul-if1 invariant-loop decreases-loop
 mul-if1 c = omega arith
@@ -33,7 +38,9 @@ loop-again c =
 returns : tie.Need-returns invariant-loop decreases-loop
 returns c =
     let l = c.before.before.loop in
-    (l.invariant.0, l.invariant.1, omega (arith, c.before.before.before.requires.0.end l.r l.invariant.0))
+    let b = c.before.before.before.requires.0 in
+    (l.invariant.0, l.invariant.1, omega (arith, b.each (l.r + 1) (omega (arith, l.invariant.0))))
 
 pub turn-from-spec : {M : Type 1} → statement M
-turn-from-spec = tie.close (tie.spec invariant-loop decreases-loop loop-holds mul-if1 element-copy-out-if1 add_r loop-less loop-again returns)
+turn-from-spec =
+    tie.close (tie.spec invariant-loop decreases-loop loop-holds add-if1 mul-if1 element-copy-out-if1 add_r loop-less loop-again returns)

@@ -18,7 +18,7 @@ use Rattle.joining.specs.Joining.{clipped_of, join_of, value_of, heard_of, Sent}
 use Rattle.joining.specs.Linked.{link_of, with_heard}
 use Rattle.joining.proofs.ClipLaws.{clip_heard, clip_fits}
 use Rattle.joining.proofs.HomeLaws.{heard_by}
-use Rattle.joining.proofs.PlaceLaws.{Place, left, place-start, place-room, place-next, left-next}
+use Rattle.joining.proofs.PlaceLaws.{Place, left, place-start, place-room, place-next, left_next}
 use Rattle.joining.proofs.LinkLaws.{link_none, Surveying, survey_start, survey_turn, survey_end}
 use Rattle.joining.proofs.LaneLaws.{Voiced, voiced, Dealt, none_dealt, deal_start, deal_a, deal_b, deal_c, deal_d}
 use Rattle.joining.proofs.linking.link_sent.Statement.{statement}
@@ -34,7 +34,7 @@ unfolding join_of
 hears {m} {n} {e} {k} {vs = vs} {h = h} p b t =
     let c = copies_at false (2 * n) (2 * m) e in
     let l = length-take-le c (drop k vs) (rw length-drop (omega (arith, place-room p b))) in
-    let next = ap (map join_of) (left-next p b t.1 t.2) in
+    let next = ap (map join_of) (left_next p b t.1 t.2) in
     let q : clipped_of h ≡ join_of (take c (drop k vs)) = ap clipped_of t.0 in
     record { place = place-next p b t.1 t.2; bits = rw (← q) at next; voice = voiced (take c (drop k vs)) q (omega (arith, l)) (rw (clip_heard h) (clip_fits (value_of h) t.3)) }
 

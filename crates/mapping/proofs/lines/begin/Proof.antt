@@ -6,9 +6,6 @@ use Rattle.mapping.proofs.lines.begin.Tie as tie
 add-t5 : tie.Need-overflow-add-t5
 add-t5 c = search rules
 
-mul-t6 : tie.Need-overflow-mul-t6
-mul-t6 c = search rules
-
 spot-requires : tie.Need-spot-requires
 spot-requires c κs = (c.before.requires.2 (omega (arith, c.if1.false)), c.before.requires.1)
 
@@ -20,7 +17,7 @@ returns-2 c =
     let l = c.before.before.args.l in (
       record {
         far = omega arith;
-        cell = omega arith;
+        index = omega arith;
         place = λ h. c.spot.ensures.0 ∙ ap (λ (x : ℕ). l.base + (pos_of l.room (l.p + 1) x - 1)) (omega arith);
       },
       refl,
@@ -28,4 +25,4 @@ returns-2 c =
     )
 
 pub begin-spec : {M : Type 1} → statement M
-begin-spec = tie.close (tie.spec add-t5 mul-t6 spot-requires returns returns-2)
+begin-spec = tie.close (tie.spec add-t5 spot-requires returns returns-2)
