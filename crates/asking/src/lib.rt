@@ -13,7 +13,7 @@ use sheet::sizes::{all_encoded, all_equalised, frames};
 use sheet::wide;
 
 // The sizes that a caller lends buffers by, zeros where the number is not 0.
-#[derive(Drop)]
+#[derive(Clone, Copy)]
 pub struct SizesAnswer {
     pub number: u32,
     // I and T.
@@ -26,7 +26,7 @@ pub struct SizesAnswer {
 }
 
 // F, E, N and V of a channel, zeros where the number is not 0.
-#[derive(Drop)]
+#[derive(Clone, Copy)]
 pub struct ChannelAnswer {
     pub number: u32,
     pub f: u64,

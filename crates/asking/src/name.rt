@@ -10,7 +10,7 @@ use naming::{PlaceName, name_lent};
 use opening::open_sheet;
 
 // The name of a place, zeros where the number is not 0.
-#[derive(Drop)]
+#[derive(Clone, Copy)]
 pub struct NameAnswer {
     pub number: u32,
     pub name: PlaceName,

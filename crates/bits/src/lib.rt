@@ -1,4 +1,6 @@
 // Fields packed bit by bit into bytes: one is read out of bytes, or put down a bit to a byte and packed.
+#![tactic(auto)]
+
 ghost use Rattle.std.specs.Prelude.{◌≡◌, ℕ, ◌+◌, ◌*◌, ◌%◌, ◌^◌, ◌≤◌, ◌<◌, length, get_or};
 ghost use Rattle.std.proofs.Math.Seq.{paste};
 ghost use Rattle.bits.specs.Bits.{bits_at, val, field, packed, bit_of, Two};

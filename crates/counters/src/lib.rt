@@ -1,5 +1,7 @@
 // The four counters that document 002 lists apart, and the answer of a call.
 // Each counter is a type of its own, so that none is taken for another; a number is taken out of one only where a step defines it.
+#![tactic(auto)]
+
 ghost use Rattle.std.specs.Prelude.{◌≡◌, ◌+◌, ◌-◌, ◌%◌, ◌≤◌, ◌<◌, ltb};
 ghost use Rattle.counters.specs.Counting.{among};
 
@@ -11,7 +13,7 @@ pub fn is_among(k: u32, n: u16) -> bool
 }
 
 // The number of a bit in its channel, counted from 1.
-#[derive(Drop)]
+#[derive(Clone, Copy)]
 pub struct BitNumber(pub u32);
 
 impl BitNumber {
@@ -43,7 +45,7 @@ impl BitNumber {
 }
 
 // The number of a transport channel (TrCH), counted from 1.
-#[derive(Drop)]
+#[derive(Clone, Copy)]
 pub struct TrchNumber(pub u32);
 
 impl TrchNumber {
@@ -79,7 +81,7 @@ impl TrchNumber {
 }
 
 // The number of a physical channel (PhCH) in its slot, counted from 1.
-#[derive(Drop)]
+#[derive(Clone, Copy)]
 pub struct PhchNumber(pub u32);
 
 impl PhchNumber {
@@ -100,7 +102,7 @@ impl PhchNumber {
 }
 
 // The frame number, 0 to 255.
-#[derive(Drop)]
+#[derive(Clone, Copy)]
 pub struct FrameNumber(pub u32);
 
 impl FrameNumber {
@@ -128,7 +130,7 @@ impl FrameNumber {
 }
 
 // A call's number, 0 where it is accepted, and how many values it wrote; with number 12 the index of the first bad value.
-#[derive(Drop)]
+#[derive(Clone, Copy)]
 pub struct Answer {
     pub number: u32,
     pub at: u64,

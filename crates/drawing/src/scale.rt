@@ -4,7 +4,7 @@ ghost use Rattle.std.specs.Prelude.{◌≤◌, ◌<◌};
 use sheet::counts::CODES;
 use sheet::wide;
 
-#[derive(Drop)]
+#[derive(Clone, Copy)]
 pub enum Scale {
     Large,
     Middle,

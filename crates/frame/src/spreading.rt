@@ -12,7 +12,7 @@ use sheet::sizes::{slot_load, subframe_places, subframes};
 use sheet::{Sheet, count};
 
 // A slot: its capacities stand from `from` up to `to` in the array of all, its part of the frame ends at `end`; and the slot after it.
-#[derive(Drop)]
+#[derive(Clone, Copy)]
 pub struct Span {
     pub from: usize,
     pub to: usize,
@@ -47,7 +47,7 @@ pub fn span_of<'a>(
 
 // What step 8 interleaves together with a slot's bits: it stands from `from` up to `to` among the multiplexed ones. Interleaved, it has those of the
 // slot from its index `at` on.
-#[derive(Drop)]
+#[derive(Clone, Copy)]
 pub struct Block {
     pub from: usize,
     pub to: usize,

@@ -15,7 +15,7 @@ use offset::start;
 use sheet::Sheet;
 
 // N, the start e, and d by its sign and its magnitude m.
-#[derive(Drop)]
+#[derive(Clone, Copy)]
 pub struct Walk {
     pub n: usize,
     pub e: usize,

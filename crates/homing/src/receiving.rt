@@ -20,21 +20,21 @@ use opening::Opened;
 use sheet::counts::MOST_BITS;
 
 // Of one channel: what was heard of a bit of its segment, or its link record.
-#[derive(Drop)]
+#[derive(Clone, Copy)]
 pub enum Wanted {
     Bit(TrchNumber, BitNumber),
     Channel(TrchNumber),
 }
 
 // Every channel's segment, or something of one channel.
-#[derive(Drop)]
+#[derive(Clone, Copy)]
 pub enum Asked {
     All,
     One(Wanted),
 }
 
 // What was heard of the bit, and the link record; nothing where they were not asked.
-#[derive(Drop)]
+#[derive(Clone, Copy)]
 pub struct Reception {
     pub heard: Heard,
     pub link: Link,

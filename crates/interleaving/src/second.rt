@@ -48,7 +48,7 @@ pub fn begin_turns(n: usize) -> [usize; 31]
 }
 
 // The seat of an index of interleaved elements: the turn in which it is read, the element that it comes from, and the turn's end.
-#[derive(Drop)]
+#[derive(Clone, Copy)]
 pub struct Seat {
     pub turn: usize,
     pub from: usize,

@@ -9,7 +9,7 @@ use crate::Heard;
 use crate::clipping::cap;
 use crate::walking::{hear_four, hear_sent};
 
-#[derive(Drop)]
+#[derive(Clone, Copy)]
 pub struct Link {
     pub least: f32,
     pub greatest: f32,
@@ -90,7 +90,7 @@ impl Link {
 }
 
 // Four records that start from the same one; the bits are dealt out to them, so that the compiler can treat four bits at once.
-#[derive(Drop)]
+#[derive(Clone, Copy)]
 struct Lanes {
     a: Link,
     b: Link,

@@ -7,7 +7,7 @@ ghost use Rattle.joining.specs.Joining.{raw_of, Sent, FourSent};
 use crate::Heard;
 
 // What was heard of the bit, not yet clipped, where the copies of the next bit begin, and e as that bit finds it.
-#[derive(Drop)]
+#[derive(Clone, Copy)]
 pub struct Step {
     pub heard: Heard,
     pub next: usize,
@@ -43,7 +43,7 @@ pub fn hear_sent(values: &[f32], k: usize, p: usize, q: usize, start: usize) -> 
 }
 
 // Of four bits that were sent.
-#[derive(Drop)]
+#[derive(Clone, Copy)]
 pub struct Four {
     pub f: Heard,
     pub g: Heard,

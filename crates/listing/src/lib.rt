@@ -13,7 +13,7 @@ use sheet::{count, wide};
 pub const ROOM: usize = 87 + 113 * CHANNELS;
 
 // A text and its length, zeros past it.
-#[derive(Drop)]
+#[derive(Clone, Copy)]
 pub struct Text {
     pub bytes: [u8; ROOM],
     pub len: usize,

@@ -20,7 +20,7 @@ use lines::{Line, put_line, take_line};
 use short::{FEW, SHORT};
 
 // How many bits PhCH 1 takes at its turn, and how many the others do.
-#[derive(Drop)]
+#[derive(Clone, Copy)]
 pub struct Runs {
     pub first: usize,
     pub other: usize,
@@ -92,7 +92,7 @@ fn turns_had(p: usize, x: usize, q: usize) -> usize
 
 // Where the walk stands: before bit x of PhCH p, whose number is k. The PhCH's places start at base and its bit 0 has the number `first`;
 // no capacity is below `low`.
-#[derive(Drop)]
+#[derive(Clone, Copy)]
 struct Mark {
     low: usize,
     p: usize,
@@ -103,7 +103,7 @@ struct Mark {
 }
 
 // The numbers of a PhCH's bits, from one of them up to `end`, are a stride apart. The PhCH has `room` places.
-#[derive(Drop)]
+#[derive(Clone, Copy)]
 struct Stretch {
     room: usize,
     stride: usize,

@@ -12,7 +12,7 @@ use interleaving::second::seat_from;
 
 // The bits `bit`, `bit` + `step`, .. of the slot, `count` of them, which are the bits `rank`, `rank` + `apart`, .. of PhCH p. Its places, as many as
 // `room`, start at base.
-#[derive(Drop)]
+#[derive(Clone, Copy)]
 pub struct Line {
     pub bit: usize,
     pub step: usize,
@@ -26,7 +26,7 @@ pub struct Line {
 
 // Where a walk along a line stands: before its bit i, which has index k, is read at `seat` and goes to `place`; or, taken back, the other way. The
 // compiler drops i, which the proof counts by.
-#[derive(Drop)]
+#[derive(Clone, Copy)]
 struct Walk {
     i: usize,
     k: usize,

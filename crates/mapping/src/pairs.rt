@@ -15,7 +15,7 @@ use crate::{Runs, capacity, lesser, whole_runs};
 
 // PhCH 1 takes u bits in runs of b, and PhCH 2 takes v in runs of c. As many `rounds` give each a whole run; in the round after them PhCH 1 takes
 // `rest` bits.
-#[derive(Drop)]
+#[derive(Clone, Copy)]
 struct Pair {
     b: usize,
     c: usize,

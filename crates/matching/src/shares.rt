@@ -11,7 +11,7 @@ use sheet::sizes::segment;
 use sheet::{Sheet, count, wide};
 
 // A difference by its sign (true: below 0) and its magnitude.
-#[derive(Drop)]
+#[derive(Clone, Copy)]
 pub struct Change {
     pub less: bool,
     pub size: u64,

@@ -19,7 +19,7 @@ pub mod existing;
 pub mod placing;
 
 // The channel, the number of its bit before step 2, and the number of the copy, from 0.
-#[derive(Drop)]
+#[derive(Clone, Copy)]
 pub struct PlaceName {
     pub trch: TrchNumber,
     pub bit: BitNumber,

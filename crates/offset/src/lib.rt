@@ -13,7 +13,7 @@ use sheet::counts::FRAMES;
 use sheet::sizes::frames;
 
 // q by its sign (true: below 0) and its magnitude.
-#[derive(Drop)]
+#[derive(Clone, Copy)]
 pub struct Spacing {
     pub below: bool,
     pub size: u64,

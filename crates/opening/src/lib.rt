@@ -14,7 +14,7 @@ use sheet::sizes::{frame_places, segment, whole_load};
 use sheet::{Sheet, count, none, wide};
 
 // The fields; N of each channel, 0 past I; Z_0 to Z_I, 0 past them. N is at most E and Z at most D, so that 16 bits hold each.
-#[derive(Drop)]
+#[derive(Clone, Copy)]
 pub struct Opened {
     pub fields: Sheet,
     pub sizes: [u16; CHANNELS],
@@ -22,7 +22,7 @@ pub struct Opened {
 }
 
 // The number of the sheet's bytes, and the opened sheet where that is 0, zeros where it is not.
-#[derive(Drop)]
+#[derive(Clone, Copy)]
 pub struct OpenAnswer {
     pub number: u32,
     pub opened: Opened,

@@ -5,7 +5,7 @@ ghost use Rattle.pattern.specs.Pattern.{Segment};
 ghost use Rattle.pattern.specs.Closed.{Stood};
 
 // A bit of the segment, counted from 0, and the number of its copy.
-#[derive(Drop)]
+#[derive(Clone, Copy)]
 pub struct Sent {
     pub bit: u64,
     pub copy: u64,

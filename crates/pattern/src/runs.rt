@@ -68,7 +68,7 @@ fn end_of(long: usize, reach: usize) -> usize
 }
 
 // Where the walk stands: e, the place of the next bit sent, and the index of the next bit read.
-#[derive(Drop)]
+#[derive(Clone, Copy)]
 pub struct Stand {
     pub e: usize,
     pub k: usize,

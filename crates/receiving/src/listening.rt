@@ -12,7 +12,7 @@ use looking::{absent, look_soft, open_frame};
 use opening::{Opened, capacity};
 
 // What was heard of a bit, nothing where the number is not 0; with number 12 `at` is the index of the first bad value.
-#[derive(Drop)]
+#[derive(Clone, Copy)]
 pub struct HeardAnswer {
     pub number: u32,
     pub at: u64,
@@ -20,7 +20,7 @@ pub struct HeardAnswer {
 }
 
 // A channel's link record, zeros where the number is not 0; `at` as above.
-#[derive(Drop)]
+#[derive(Clone, Copy)]
 pub struct LinkAnswer {
     pub number: u32,
     pub at: u64,
@@ -28,7 +28,7 @@ pub struct LinkAnswer {
 }
 
 // What both calls answer; nothing heard and zeros where the number is not 0, or where it was not asked for.
-#[derive(Drop)]
+#[derive(Clone, Copy)]
 pub struct Listened {
     pub number: u32,
     pub at: u64,

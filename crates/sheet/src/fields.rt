@@ -16,14 +16,14 @@ use crate::layout::{
 };
 use crate::sizes::slot_width;
 
-#[derive(Drop)]
+#[derive(Clone, Copy)]
 pub struct Channels {
     pub tti: [u16; CHANNELS],
     pub e: [u16; CHANNELS],
     pub rm: [u16; CHANNELS],
 }
 
-#[derive(Drop)]
+#[derive(Clone, Copy)]
 pub struct Slots {
     pub phchs: [u16; SLOTS],
     pub caps: [u16; CAPACITIES],

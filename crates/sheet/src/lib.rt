@@ -1,4 +1,6 @@
 // The format sheet: its fields, how they are read from bytes, and the sizes that they give.
+#![tactic(auto)]
+
 ghost use Rattle.std.specs.Prelude.{◌≡◌, ◌≤◌};
 ghost use Rattle.sheet.specs.Fields.{blank};
 
@@ -13,7 +15,7 @@ use counts::{CAPACITIES, CHANNELS, LOGS, SLOTS};
 // The fields of a sheet, each wide enough for values out of its range: version, mode, I, T, uplink, 1.28 Mcps (the low chip rate); TTI, E and RM
 // of each channel; P of each slot; U of physical channel p of slot t, both counted from 0, at 16 t + p; for p below 2 the logarithm of its
 // spreading factor at 2 t + p, since an uplink slot has no more. Room past I, T or P holds no field, and in downlink the logarithms hold none.
-#[derive(Drop)]
+#[derive(Clone, Copy)]
 pub struct Sheet {
     pub version: u16,
     pub mode: u16,
@@ -30,7 +32,7 @@ pub struct Sheet {
 }
 
 // What reading a sheet answers: its number, and its fields where that is 0.
-#[derive(Drop)]
+#[derive(Clone, Copy)]
 pub struct SheetAnswer {
     pub number: u32,
     pub sheet: Sheet,

@@ -11,7 +11,7 @@ use crate::layout::{CAPACITY_WIDTH, CHANNEL_WIDTH, CODES_WIDTH, HEAD_WIDTH, LOG_
 use crate::{Sheet, count, wide};
 
 // What capacities come to: whether one of them is 0, and their sum.
-#[derive(Drop)]
+#[derive(Clone, Copy)]
 pub struct Load {
     pub empty: bool,
     pub sum: u64,

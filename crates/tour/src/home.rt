@@ -11,7 +11,7 @@ use ummervia::{build, finish, sheet_read, take_back};
 const ROOM: usize = 64;
 
 // The places of a frame, counted from 0, at which nothing is heard: those from `from` on, before `to`.
-#[derive(Drop)]
+#[derive(Clone, Copy)]
 pub struct Silence {
     pub from: usize,
     pub to: usize,

@@ -59,7 +59,7 @@ fn say_group(bits: &[u8], from: usize, n: usize) -> usize
 }
 
 // A sub-frame, counted from 1, of those that a frame has.
-#[derive(Drop)]
+#[derive(Clone, Copy)]
 struct Part {
     subframe: u32,
     of: u32,
@@ -115,7 +115,7 @@ fn say_places(sheet: &[u8], number: FrameNumber, subframe: u32, m: usize, n: u16
 }
 
 // What is said of a count of a sheet: the bits of a channel's contents, or of a physical channel, or the names of its places.
-#[derive(Drop)]
+#[derive(Clone, Copy)]
 enum Row {
     Contents,
     Bits,
