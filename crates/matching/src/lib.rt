@@ -1,2 +1,4 @@
 // Rate matching: how many bits of each channel go into a frame.
+#![tactic(auto)]
+
 pub mod shares;

@@ -1,4 +1,6 @@
 // The orders in which columns are taken, each said once for all who use it.
+#![tactic(auto)]
+
 ghost use Rattle.std.specs.Prelude.{◌≡◌, [], ◌≤◌, ◌<◌, get_or};
 ghost use Rattle.sheet.specs.Counts.{most_tti, most_frames};
 ghost use Rattle.orders.specs.Orders.{orders, column_at, order};
