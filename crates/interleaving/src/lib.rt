@@ -1,4 +1,6 @@
 // Steps 1 to 3, equalisation, first interleaving and segmentation, and step 8, second interleaving; and their undoing.
+#![tactic(auto)]
+
 ghost use Rattle.std.specs.Prelude.{◌≡◌, ◌≤◌};
 ghost use Rattle.sheet.specs.Counts.{most_tti, most_frames};
 ghost use Rattle.sheet.specs.Sizes.{frames_in};

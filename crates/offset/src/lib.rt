@@ -1,5 +1,7 @@
 // Step 5: where the pattern of step 6 starts in each frame of a TTI. Signed numbers go by sign and magnitude, so that no floor of a
 // negative number is in the code.
+#![tactic(auto)]
+
 ghost use Rattle.std.specs.Prelude.{◌≡◌, ℕ, ◌+◌, ◌*◌, ◌%◌, ◌^◌, ◌≤◌, ◌<◌, get_or};
 ghost use Rattle.sheet.specs.Counts.{most_bits, most_tti, most_frames};
 ghost use Rattle.sheet.specs.Sizes.{frames_in};

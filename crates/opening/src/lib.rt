@@ -1,4 +1,6 @@
 // A sheet opened once: its fields, and the numbers that every frame needs of them.
+#![tactic(auto)]
+
 ghost use Rattle.std.specs.Prelude.{◌≡◌, ◌≤◌, ◌<◌};
 ghost use Rattle.sheet.specs.Counts.{most_bits};
 ghost use Rattle.sheet.specs.Sizes.{capacity_all};

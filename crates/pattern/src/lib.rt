@@ -1,5 +1,7 @@
 // Step 6: the pattern by which bits of a segment are dropped or repeated. The segment's n bits are read where they stand among the contents `src`:
 // every step-th from `from` on, and fillers past the end. Each function writes the whole of `dst`.
+#![tactic(auto)]
+
 ghost use Rattle.std.specs.Prelude.{◌≡◌, true, false, ◌++◌, ◌-◌, ◌≤◌, ◌<◌, length, take, replicate};
 ghost use Rattle.matching.specs.Signed.{signed_by};
 ghost use Rattle.pattern.specs.Pattern.{matched, as_is, Segment};

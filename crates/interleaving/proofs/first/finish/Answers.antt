@@ -1,0 +1,63 @@
+use native.Mathlib.Omega.{arith}
+use mathlib.Core.Path.{sym, ap, ◌∙◌}
+use mathlib.Core.List.{List}
+use Prim.Native.Nat.{ℕ, ◌<◌}
+use native.Mathlib.Nat.{mul-le-mul_right}
+use lib.ListN.{length, get_or}
+use Rattle.sheet.specs.Sizes.{frames_in}
+use Rattle.orders.specs.Orders.{column_at}
+use Rattle.interleaving.proofs.FinishWalk.{starts, resized, enters, long, reads_in, put, leaves, ends}
+use Rattle.interleaving.proofs.first.finish.Goals.{In-loop-k}
+use Rattle.interleaving.proofs.first.finish.Goals as goal
+
+pub loop-s-init : goal.loop-s-init
+loop-s-init c = (omega arith, starts c.args.part.now c.args.tti c.args.n c.args.out.now c.requires)
+
+pub overflow_mul-i : goal.overflow_mul-i
+overflow_mul-i c =
+    let l = c.loop-s in
+    omega (arith, c.requires.whole, mul-le-mul_right {m = l.s} {n = frames_in c.args.tti} c.args.n (omega (arith, c.frames-f.ensures.0)))
+
+pub loop-k-init : goal.loop-k-init
+unfolding column_at
+loop-k-init c =
+    let l = c.loop-s in
+    let w = l.invariant.1 in
+    enters (resized w (sym w.filling.long)) (omega (arith, c.frames-f.ensures.0)) (c.wide-p.ensures ∙ ap (λ (r : List ℕ). get_or r l.s 0) c.row-row.ensures)
+
+-- what is read stands in part
+inside : (c : In-loop-k) → c.loop-k.i < length c.args.part.now
+inside c = let l = c.loop-k in reads_in l.invariant (omega (arith, long l.invariant))
+
+pub offset_bounds-part-i : goal.offset_bounds-part-i
+offset_bounds-part-i c = omega (arith, inside (goal.at.offset_bounds-part-i c).In-loop-k)
+
+pub bounds-part-i : goal.bounds-part-i
+bounds-part-i c = inside (goal.at.bounds-part-i c).In-loop-k
+
+pub overflow_add-i : goal.overflow_add-i
+overflow_add-i c = omega (arith, inside (goal.at.overflow_add-i c).In-loop-k)
+
+pub overflow_add-k : goal.overflow_add-k
+overflow_add-k c = omega (arith, c.frames-f.ensures.2)
+
+pub loop-k-smaller : goal.loop-k-smaller
+loop-k-smaller c = omega (arith, long c.loop-k.invariant, c.frames-f.ensures.1)
+
+pub loop-k-preserved : goal.loop-k-preserved
+loop-k-preserved c =
+    let l = c.loop-k in
+    put l.invariant (omega (arith, long l.invariant)) c.frames-f.ensures.0
+
+pub loop-s-preserved : goal.loop-s-preserved
+loop-s-preserved c =
+    let g = c.loop-k.invariant in
+    (omega arith, resized (leaves g (omega (arith, long g))) c.loop-s.invariant.1.filling.long)
+
+pub shape_of-out : goal.shape_of-out
+shape_of-out c = c.loop-s.invariant.1.filling.long
+
+pub returns : goal.returns
+returns c =
+    let l = c.loop-s in
+    ends l.invariant.1 (omega (arith, c.frames-f.ensures.0))

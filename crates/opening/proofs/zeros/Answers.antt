@@ -1,0 +1,4 @@
+use Rattle.opening.proofs.zeros.Goals as goal
+
+pub returns : goal.returns
+returns c = rw c.none-fields.ensures
