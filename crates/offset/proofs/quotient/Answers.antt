@@ -1,9 +1,9 @@
 use native.Mathlib.Omega.{arith}
 use mathlib.Core.Path.{sym}
-use mathlib.Core.Logic.{⊎_elim}
 use Prim.Native.Nat.{◌-◌}
 use native.Mathlib.Nat.{div-le_self}
 use Rattle.offset.proofs.QuotientLaws.{q_up, q_down, q_down_pos}
+use Rattle.offset.proofs.quotient.Goals.{then-r-ne0+else-r-n, else-r-ne0}
 use Rattle.offset.proofs.quotient.Goals as goal
 
 pub overflow_add-result : goal.overflow_add-result
@@ -17,7 +17,7 @@ returns-then-r-n c =
 pub returns : goal.returns
 returns c =
     let a = c.args in (
-      sym (q_down a.n a.r (omega arith) (⊎_elim (λ w. λ p l. omega arith) (λ w. λ p l. omega arith) c.if-r-ne0.branch)),
+      sym (q_down a.n a.r (omega arith) (elim c.if-r-ne0.branch [ then-r-ne0+else-r-n w ↦ λ p l. omega arith | else-r-ne0 w ↦ λ p l. omega arith ])),
       q_down_pos a.n a.r (omega arith),
       div-le_self a.n (a.n - a.r),
     )
