@@ -24,7 +24,7 @@ pub bounds-dst-k : goal.bounds-dst-k
 bounds-dst-k c = omega (arith, within (goal.at.bounds-dst-k c).After-shared_slice_known-in-loop-j-1, c.requires.1, c.loop-j.invariant.1.long)
 
 pub overflow_add-k : goal.overflow_add-k
-overflow_add-k c = omega (arith, slice-write-dst (goal.at.overflow_add-k c).After-shared_slice_known-in-loop-j-1)
+overflow_add-k c = omega (arith, bounds-dst-k (goal.at.overflow_add-k c).After-shared_slice_known-in-loop-j-1)
 
 pub overflow_add-j : goal.overflow_add-j
 overflow_add-j c = omega (arith, c.requires.0.few)
@@ -42,7 +42,7 @@ pub fill-requires : goal.fill-requires
 fill-requires c = omega (arith, c.loop-j.invariant.1.ends, c.loop-j.invariant.1.long)
 
 pub shape_of-dst : goal.shape_of-dst
-shape_of-dst c = c.fill.auto.0 ∙ c.loop-j.invariant.1.long
+shape_of-dst c = c.fill.auto.dst ∙ c.loop-j.invariant.1.long
 
 pub returns : goal.returns
 returns c =

@@ -1,12 +1,11 @@
 use mathlib.Core.Path.{◌∙◌}
-use mathlib.Core.Logic.{⊎_elim}
 use mathlib.Core.Bool.{true}
 use Prim.Native.Nat.{◌+◌, ◌*◌, ◌≤◌}
 use native.Mathlib.Omega.{arith}
 use lib.ListN.{length}
 use Rattle.pattern.proofs.SegmentLaws.{begins, sized_less}
 use Rattle.pattern.proofs.LeftLaws.{Sending, sending_starts, sending_keep, kept_room, sending_drop, sending_run, sending_ends}
-use Rattle.pattern.proofs.puncture.Goals.{After-shared_slice_known-then-q-e-1, Joined-q-e}
+use Rattle.pattern.proofs.puncture.Goals.{then-q-e, else-q-e, After-shared_slice_known-then-q-e-1, Joined-q-e}
 use Rattle.pattern.proofs.puncture.Goals as goal
 
 pub overflow_mul-p : goal.overflow_mul-p
@@ -29,7 +28,7 @@ pub bounds-dst-k : goal.bounds-dst-k
 bounds-dst-k c = kept_room c.loop-j.invariant.2 c.requires.1 (omega arith) (omega arith)
 
 pub overflow_add-k : goal.overflow_add-k
-overflow_add-k c = omega (arith, slice-write-dst (goal.at.overflow_add-k c).After-shared_slice_known-then-q-e-1)
+overflow_add-k c = omega (arith, bounds-dst-k (goal.at.overflow_add-k c).After-shared_slice_known-then-q-e-1)
 
 pub overflow_add-e : goal.overflow_add-e
 overflow_add-e c = omega (arith, c.requires.0.few)
@@ -43,10 +42,10 @@ turned : (c : Joined-q-e) → let l = c.loop-j in let a = c.args in
 turned c =
     let l = c.loop-j in
     let w = c.requires.1 in
-    ⊎_elim
-    (λ x. rw (x.2, x.3, x.4) (omega arith, sending_keep l.invariant.2 w (omega arith) (omega arith)))
-    (λ x. rw (x.1, x.2, x.3) (omega arith, sending_drop l.invariant.2 w (omega arith) (omega arith) (omega arith)))
-    c.if-q-e.branch
+    elim c.if-q-e.branch [
+      then-q-e w' ↦ rw (w'.dst-is, w'.e-is, w'.k-is) (omega arith, sending_keep l.invariant.2 w (omega arith) (omega arith))
+    | else-q-e w' ↦ rw (w'.dst-is, w'.e-is, w'.k-is) (omega arith, sending_drop l.invariant.2 w (omega arith) (omega arith) (omega arith))
+    ]
 
 pub send_run-t-requires : goal.send_run-t-requires
 send_run-t-requires c = (c.run_of-run.ensures, omega (arith, c.requires.0.most), (turned (goal.at.send_run-t-requires c).Joined-q-e).1.above)
@@ -67,7 +66,7 @@ pub fill-requires : goal.fill-requires
 fill-requires c = omega (arith, c.loop-j.invariant.2.todo.ends, c.loop-j.invariant.2.todo.long)
 
 pub shape_of-dst : goal.shape_of-dst
-shape_of-dst c = c.fill.auto.0 ∙ c.loop-j.invariant.2.todo.long
+shape_of-dst c = c.fill.auto.dst ∙ c.loop-j.invariant.2.todo.long
 
 pub returns : goal.returns
 returns c =

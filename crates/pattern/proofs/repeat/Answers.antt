@@ -32,7 +32,7 @@ pub bounds-dst-k : goal.bounds-dst-k
 bounds-dst-k c = more_room c.loop-e.invariant.2 c.requires.1 (omega arith)
 
 pub overflow_add-k : goal.overflow_add-k
-overflow_add-k c = omega (arith, slice-write-dst (goal.at.overflow_add-k c).In-loop-e)
+overflow_add-k c = omega (arith, bounds-dst-k (goal.at.overflow_add-k c).In-loop-e)
 
 pub overflow_add-e : goal.overflow_add-e
 overflow_add-e c = omega (arith, c.requires.0.few, c.requires.0.most)
@@ -51,7 +51,7 @@ pub bounds-dst-k-in-loop-j : goal.bounds-dst-k-in-loop-j
 bounds-dst-k-in-loop-j c = more_room c.loop-e.invariant.2 c.requires.1 (omega arith)
 
 pub overflow_add-k-in-loop-j : goal.overflow_add-k-in-loop-j
-overflow_add-k-in-loop-j c = omega (arith, slice-write-dst-2 (goal.at.overflow_add-k-in-loop-j c).After-loop-e)
+overflow_add-k-in-loop-j c = omega (arith, bounds-dst-k-in-loop-j (goal.at.overflow_add-k-in-loop-j c).After-loop-e)
 
 pub overflow_add-j : goal.overflow_add-j
 overflow_add-j c = omega (arith, c.requires.1.few)
@@ -81,7 +81,7 @@ pub fill-requires : goal.fill-requires
 fill-requires c = omega (arith, c.loop-j.invariant.1.todo.ends, c.loop-j.invariant.1.todo.long)
 
 pub shape_of-dst : goal.shape_of-dst
-shape_of-dst c = c.fill.auto.0 ∙ c.loop-j.invariant.1.todo.long
+shape_of-dst c = c.fill.auto.dst ∙ c.loop-j.invariant.1.todo.long
 
 pub returns : goal.returns
 returns c =
