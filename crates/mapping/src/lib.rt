@@ -1,6 +1,8 @@
 // Step 9: mapping a slot's bits to its physical channels (PhCHs), and the undoing. PhCHs and their bits are counted from 0 here.
 // Bits that go one at a time are mapped along one PhCH after the other, stretch by stretch. From one bit of a PhCH to its next the number of the
 // bit moves by a stride, which changes only where a PhCH fills up. Two PhCHs that take bits in runs are mapped by `pairs`.
+#![tactic(auto)]
+
 ghost use Rattle.std.specs.Prelude.{◌≡◌, ◌+◌, ◌-◌, ◌/◌, ◌^◌, ◌<◌, ◌≤◌, min, length};
 ghost use Rattle.std.specs.Float.{nan};
 ghost use Rattle.mapping.specs.Mapping.{pos_of, number_of, filled_as, ones, first_run, second_run, in_runs, at, slot_size, slot_of, slot_undone, Slot};

@@ -1,0 +1,46 @@
+use Rattle.std.proofs.Common.{◌≡◌, List, ◌++◌, length, take, drop, sym, ap, ◌∙◌, arith, length-take-le, take_at}
+use Rattle.interleaving.specs.Second.{second_interleaved}
+use Rattle.interleaving.proofs.SecondLaws.{second-length}
+use Rattle.mapping.specs.declared.lines.Line.{Line}
+use borrow.Rule.Slice.PartMut.{put_mid}
+use lib.Ieee.{Float, nan}
+use Rattle.mapping.specs.Lines.{spot_on, index_on, copied}
+use Rattle.mapping.proofs.LineLaws.{whole-within, whole_take}
+use Rattle.mapping.proofs.short.unmap_between.Goals.{After-unmap_laid}
+use Rattle.mapping.proofs.short.unmap_between.Goals as goal
+
+-- the slot's values fill the first part of the room
+module _ (g : After-unmap_laid) where
+  abbrev laid : List Float
+  laid = g.unmap_laid.last.1.1.0
+
+  full : length laid ≡ length g.args.frame.now
+  full = g.unmap_laid.kept.1.1.0 ∙ length-take-le _ _ g.requires.2
+
+  front : let n = length g.args.frame.now in take n (laid ++ drop n g.args.room.now) ≡ laid
+  front = take_at laid _ _ full
+
+pub slice_bounds-unmap_laid-end-2 : goal.slice_bounds-unmap_laid-end-2
+slice_bounds-unmap_laid-end-2 c = sym (length-take-le _ _ c.requires.2)
+
+pub unmap_laid-requires : goal.unmap_laid-requires
+unmap_laid-requires c = (record { bits = length-take-le _ _ c.requires.2 ∙ c.requires.0.bits; room = c.requires.0.room }, c.requires.1)
+
+pub slice_bounds-take_line-end-2 : goal.slice_bounds-take_line-end-2
+slice_bounds-take_line-end-2 c = sym (ap (λ (l : List Float). length l) (front (goal.at.slice_bounds-take_line-end-2 c).After-unmap_laid) ∙ full (goal.at.slice_bounds-take_line-end-2 c).After-unmap_laid)
+
+pub take_line-requires : goal.take_line-requires
+take_line-requires c =
+    let e = ap (λ (l : List Float). length l) (front (goal.at.take_line-requires c).After-unmap_laid) ∙ full (goal.at.take_line-requires c).After-unmap_laid in
+    rw (e, c.whole_line.ensures) (whole-within _ (omega (arith, (s (goal.at.take_line-requires c).After-unmap_laid).requires.3.inside, (s (goal.at.take_line-requires c).After-unmap_laid).requires.3.most)), (s (goal.at.take_line-requires c).After-unmap_laid).requires.3)
+
+pub returns : goal.returns
+returns c =
+    let a = (s (goal.at.returns c).After-unmap_laid).args in
+    let S = second_interleaved a.values.now in
+    let n = length a.frame.now in
+    let v = take n (laid (goal.at.returns c).After-unmap_laid ++ drop n a.room.now) in
+    c.take_line.ensures
+    ∙ ap (λ (l : Line). copied nan (spot_on l) (index_on a.at l) v l.count S) c.whole_line.ensures
+    ∙ whole_take nan a.at n S v (omega (arith, second-length a.values.now, (s (goal.at.returns c).After-unmap_laid).requires.3.inside)) (ap (λ (l : List Float). length l) (front (goal.at.returns c).After-unmap_laid) ∙ full (goal.at.returns c).After-unmap_laid)
+    ∙ ap (put_mid a.at n S) (front (goal.at.returns c).After-unmap_laid ∙ c.unmap_laid.ensures)

@@ -1,0 +1,80 @@
+use Rattle.std.proofs.Common.{◌+◌, ◌*◌, ◌≤◌, length, refl, ap, ◌∙◌, arith}
+use borrow.Rule.Slice.PartMut.{put_mid}
+use lib.Ieee.{nan}
+use Rattle.interleaving.specs.Second.{second_interleaved}
+use Rattle.interleaving.proofs.SecondLaws.{second-length}
+use Rattle.mapping.specs.Strides.{Along}
+use Rattle.mapping.specs.Lines.{Within, line_along, part_from}
+use Rattle.mapping.specs.declared.lines.Line.{Line}
+use Rattle.mapping.proofs.WalkLaws.{along_starts, standing_starts, standing_next, standing_bits}
+use Rattle.mapping.proofs.LineLaws.{over_starts, part_length, within_span}
+use Rattle.mapping.proofs.AlongLaws.{stretch_within, through-take, through_over}
+use Rattle.mapping.proofs.unmap_ones.Goals.{After-line_along-l, Start}
+use Rattle.mapping.proofs.unmap_ones.Goals as goal
+
+-- the slot's values lie within the others
+fits : (c : Start) → c.args.at + length c.args.frame.now ≤ length (second_interleaved c.args.values.now)
+fits c = omega (arith, second-length c.args.values.now, c.requires.2.inside)
+
+-- a stretch, and the line that it is
+module _ (c : After-line_along-l) where
+  along : Along c.args.caps.now nan (part_from c.args.at (length c.args.frame.now) (second_interleaved c.loop-m.values)) c.loop-m.m c.stretch_from-r.result c.loop-m.m.x c.loop-m.m.k c.args.frame.now
+  along = along_starts c.loop-m.invariant.0 c.stretch_from-r.ensures
+
+  inside : Within (length c.args.frame.now) (length c.args.frame.now) (line_along c.loop-m.m c.stretch_from-r.result)
+  inside =
+      stretch_within along (part_length (second_interleaved c.loop-m.values) c.args.at _ c.loop-m.invariant.1.fits)
+      (omega (arith, c.requires.2.inside, c.requires.2.most)) c.requires.1
+
+pub start-m-requires : goal.start-m-requires
+start-m-requires c = let p = c.requires in omega (arith, p.0.bits, p.1, p.2.inside, p.2.most)
+
+pub loop-m-init : goal.loop-m-init
+loop-m-init c = (
+  standing_starts c.start-m.ensures (record { bits = part_length (second_interleaved c.args.values.now) c.args.at _ (fits (goal.at.loop-m-init c).Start) ∙ c.requires.0.bits; room = c.requires.0.room }),
+  over_starts c.args.at (length c.args.frame.now) (second_interleaved c.args.values.now) (fits (goal.at.loop-m-init c).Start),
+  refl,
+)
+
+pub stretch_from-r-requires : goal.stretch_from-r-requires
+stretch_from-r-requires c = (c.loop-m.invariant.0.mark, omega arith)
+
+pub line_along-l-requires : goal.line_along-l-requires
+line_along-l-requires c = c.stretch_from-r.ensures.steps.from
+
+pub take_line-requires : goal.take_line-requires
+take_line-requires c = rw (c.line_along-l.ensures, (turn (goal.at.take_line-requires c).After-line_along-l).loop.invariant.2) (inside (goal.at.take_line-requires c).After-line_along-l, (start (goal.at.take_line-requires c).After-line_along-l).requires.2)
+
+pub overflow_mul-l : goal.overflow_mul-l
+overflow_mul-l c = rw c.line_along-l.ensures (omega (arith, within_span (inside (goal.at.overflow_mul-l c).After-line_along-l), (start (goal.at.overflow_mul-l c).After-line_along-l).requires.2.inside, (start (goal.at.overflow_mul-l c).After-line_along-l).requires.2.most))
+
+pub overflow_add-m : goal.overflow_add-m
+overflow_add-m c =
+    rw c.line_along-l.ensures
+    (omega (arith, within_span (inside (goal.at.overflow_add-m c).After-line_along-l), (along (goal.at.overflow_add-m c).After-line_along-l).leg.mark.fits, (start (goal.at.overflow_add-m c).After-line_along-l).requires.0.bits, (start (goal.at.overflow_add-m c).After-line_along-l).requires.2.inside, (start (goal.at.overflow_add-m c).After-line_along-l).requires.2.most))
+
+pub onward-m-requires : goal.onward-m-requires
+onward-m-requires c =
+    let a =
+    through-take (along (goal.at.onward-m-requires c).After-line_along-l) (second_interleaved (turn (goal.at.onward-m-requires c).After-line_along-l).loop.values) (start (goal.at.onward-m-requires c).After-line_along-l).args.at _ refl (inside (goal.at.onward-m-requires c).After-line_along-l) c.line_along-l.ensures (fits (start (goal.at.onward-m-requires c).After-line_along-l)) (turn (goal.at.onward-m-requires c).After-line_along-l).loop.invariant.1 c.take_line.ensures in
+    (a.leg, λ h. ap (λ (x : Line). (turn (goal.at.onward-m-requires c).After-line_along-l).loop.m.k + x.count * c.stretch_from-r.result.stride) c.line_along-l.ensures ∙ a.bit h)
+
+pub loop-m-smaller : goal.loop-m-smaller
+loop-m-smaller c = c.onward-m.ensures.nearer
+
+pub loop-m-preserved : goal.loop-m-preserved
+loop-m-preserved c =
+    let e = c.take_line.ensures in
+    let S = second_interleaved (turn (goal.at.loop-m-preserved c).After-line_along-l).loop.values in (
+      standing_next (through-take (along (goal.at.loop-m-preserved c).After-line_along-l) S (start (goal.at.loop-m-preserved c).After-line_along-l).args.at _ refl (inside (goal.at.loop-m-preserved c).After-line_along-l) c.line_along-l.ensures (fits (start (goal.at.loop-m-preserved c).After-line_along-l)) (turn (goal.at.loop-m-preserved c).After-line_along-l).loop.invariant.1 e) c.onward-m.ensures,
+      through_over (along (goal.at.loop-m-preserved c).After-line_along-l) S (start (goal.at.loop-m-preserved c).After-line_along-l).args.at _ refl (inside (goal.at.loop-m-preserved c).After-line_along-l) c.line_along-l.ensures (fits (start (goal.at.loop-m-preserved c).After-line_along-l)) (turn (goal.at.loop-m-preserved c).After-line_along-l).loop.invariant.1 e,
+      c.values-1.given ∙ (turn (goal.at.loop-m-preserved c).After-line_along-l).loop.invariant.2,
+    )
+
+pub shape_of-values : goal.shape_of-values
+shape_of-values c = c.loop-m.invariant.2
+
+pub returns : goal.returns
+returns c =
+    let o = c.loop-m.invariant in
+    o.1.is ∙ ap (put_mid c.args.at (length c.args.frame.now) (second_interleaved c.args.values.now)) (standing_bits o.0 (omega arith))
