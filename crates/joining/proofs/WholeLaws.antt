@@ -91,6 +91,10 @@ right n d e b h = left n d e b h ∙ ap (λ (k : ℕ). b * k) (mul_comm (down d)
 pub add_is : (f : Format) (x y : Float) (s : Bool) (a : ℕ) (t : Bool) (b : ℕ) → HasValue x s a 1 → HasValue y t b 1
     → add f x y ≡ sum f s a t b 1
 unfolding add
+add_is f nan y s a t b v w = elim v [ ]
+add_is f (inf _) y s a t b v w = elim v [ ]
+add_is f (fin p m e) nan s a t b v w = elim w [ ]
+add_is f (fin p m e) (inf _) s a t b v w = elim w [ ]
 add_is f (fin p m e) (fin q n d) s a t b v w =
     ap₂ (λ (j k : ℕ). sum f p j q k (down e * down d)) (left m e d a v.1) (right n d e b w.1)
     ∙ sum_over f p a q b (down e * down d) (mul-pos (down_pos e) (down_pos d))

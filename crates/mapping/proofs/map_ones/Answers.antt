@@ -21,7 +21,6 @@ sized c =
 module _ (c : After-line_along-l) where
   along : Along c.args.caps.now 0 (part_from c.args.at (length c.args.frame.now) (second_interleaved c.args.bits.now)) c.loop-m.m c.stretch_from-r.result c.loop-m.m.x c.loop-m.m.k c.loop-m.frame
   along = along_starts c.loop-m.invariant.0 c.stretch_from-r.ensures
-
   inside : Within (length c.args.frame.now) (length c.loop-m.frame) (line_along c.loop-m.m c.stretch_from-r.result)
   inside = stretch_within along (sized (goal.at-After-line_along-l c).Start) (omega (arith, c.requires.2.inside, c.requires.2.most)) c.requires.1
 
@@ -38,20 +37,20 @@ pub line_along-l-requires : goal.line_along-l-requires
 line_along-l-requires c = c.stretch_from-r.ensures.steps.from
 
 pub put_line-requires : goal.put_line-requires
-put_line-requires c = rw (c.line_along-l.ensures, (turn (goal.at.put_line-requires c).After-line_along-l).loop.invariant.1) (rw (turn (goal.at.put_line-requires c).After-line_along-l).loop.invariant.1 at (inside (goal.at.put_line-requires c).After-line_along-l), (start (goal.at.put_line-requires c).After-line_along-l).requires.2)
+put_line-requires c = rw (c.line_along-l.ensures, c.loop-m.invariant.1) (rw c.loop-m.invariant.1 at (inside (goal.at.put_line-requires c).After-line_along-l), c.requires.2)
 
 pub overflow_mul-l : goal.overflow_mul-l
-overflow_mul-l c = rw c.line_along-l.ensures (omega (arith, within_span (inside (goal.at.overflow_mul-l c).After-line_along-l), (start (goal.at.overflow_mul-l c).After-line_along-l).requires.2.inside, (start (goal.at.overflow_mul-l c).After-line_along-l).requires.2.most))
+overflow_mul-l c = rw c.line_along-l.ensures (omega (arith, within_span (inside (goal.at.overflow_mul-l c).After-line_along-l), c.requires.2.inside, c.requires.2.most))
 
 pub overflow_add-m : goal.overflow_add-m
 overflow_add-m c =
     rw c.line_along-l.ensures
-    (omega (arith, within_span (inside (goal.at.overflow_add-m c).After-line_along-l), (along (goal.at.overflow_add-m c).After-line_along-l).leg.mark.fits, (start (goal.at.overflow_add-m c).After-line_along-l).requires.0.bits, (start (goal.at.overflow_add-m c).After-line_along-l).requires.2.inside, (start (goal.at.overflow_add-m c).After-line_along-l).requires.2.most))
+    (omega (arith, within_span (inside (goal.at.overflow_add-m c).After-line_along-l), (along (goal.at.overflow_add-m c).After-line_along-l).leg.mark.fits, c.requires.0.bits, c.requires.2.inside, c.requires.2.most))
 
 pub onward-m-requires : goal.onward-m-requires
 onward-m-requires c =
-    let a = through_put (along (goal.at.onward-m-requires c).After-line_along-l) (second_interleaved (start (goal.at.onward-m-requires c).After-line_along-l).args.bits.now) (start (goal.at.onward-m-requires c).After-line_along-l).args.at _ refl (inside (goal.at.onward-m-requires c).After-line_along-l) c.line_along-l.ensures c.put_line.ensures in
-    (a.leg, λ h. ap (λ (x : Line). (turn (goal.at.onward-m-requires c).After-line_along-l).loop.m.k + x.count * c.stretch_from-r.result.stride) c.line_along-l.ensures ∙ a.bit h)
+    let a = through_put (along (goal.at.onward-m-requires c).After-line_along-l) (second_interleaved c.args.bits.now) c.args.at _ refl (inside (goal.at.onward-m-requires c).After-line_along-l) c.line_along-l.ensures c.put_line.ensures in
+    (a.leg, λ h. ap (λ (x : Line). c.loop-m.m.k + x.count * c.stretch_from-r.result.stride) c.line_along-l.ensures ∙ a.bit h)
 
 pub loop-m-smaller : goal.loop-m-smaller
 loop-m-smaller c = c.onward-m.ensures.nearer
@@ -59,8 +58,8 @@ loop-m-smaller c = c.onward-m.ensures.nearer
 pub loop-m-preserved : goal.loop-m-preserved
 loop-m-preserved c =
     let e = c.put_line.ensures in (
-      standing_next (through_put (along (goal.at.loop-m-preserved c).After-line_along-l) (second_interleaved (start (goal.at.loop-m-preserved c).After-line_along-l).args.bits.now) (start (goal.at.loop-m-preserved c).After-line_along-l).args.at _ refl (inside (goal.at.loop-m-preserved c).After-line_along-l) c.line_along-l.ensures e) c.onward-m.ensures,
-      ap length e ∙ copied-length 0 _ _ _ _ c.line_along-l.result.count ∙ (turn (goal.at.loop-m-preserved c).After-line_along-l).loop.invariant.1,
+      standing_next (through_put (along (goal.at.loop-m-preserved c).After-line_along-l) (second_interleaved c.args.bits.now) c.args.at _ refl (inside (goal.at.loop-m-preserved c).After-line_along-l) c.line_along-l.ensures e) c.onward-m.ensures,
+      ap length e ∙ copied-length 0 _ _ _ _ c.line_along-l.result.count ∙ c.loop-m.invariant.1,
     )
 
 pub shape_of-frame : goal.shape_of-frame

@@ -1,6 +1,7 @@
-use Rattle.std.proofs.Common.{◌≡◌, length, refl, ⊎_elim, arith}
+use Rattle.std.proofs.Common.{◌≡◌, length, refl, arith}
 use Rattle.mapping.specs.Mapping.{at}
 use Rattle.mapping.proofs.StrideLaws.{reach_start, reach_more, reach_full}
+use Rattle.mapping.proofs.reach.Goals.{then-had-v, else-had-v}
 use Rattle.mapping.proofs.reach.Goals as goal
 
 pub loop-q-init : goal.loop-q-init
@@ -17,9 +18,10 @@ loop-q-preserved c =
     let t = c.turns_had-had.ensures.0 in
     let U = at a.caps.now in (
       omega arith,
-      ⊎_elim
-          (λ w. rw (w.2, w.3, w.1.ensures, t, v) (reach_more U a.p a.x l.q l.stride l.end l.invariant.1 (omega (arith, w.0))))
-          (λ w. rw (w.1, w.2) (reach_full U a.p a.x l.q l.stride l.end l.invariant.1 (omega (arith, w.0)))) c.if-had-v.branch,
+      elim c.if-had-v.branch [
+        then-had-v w ↦ rw (w.stride-is, w.end-is, w.until-end.ensures, t, v) (reach_more U a.p a.x l.q l.stride l.end l.invariant.1 (omega (arith, w.if-had-v.true)))
+      | else-had-v w ↦ rw (w.stride-is, w.end-is) (reach_full U a.p a.x l.q l.stride l.end l.invariant.1 (omega (arith, w.if-had-v.false)))
+      ],
     )
 
 pub returns : goal.returns

@@ -20,7 +20,6 @@ fits c = omega (arith, second-length c.args.values.now, c.requires.2.inside)
 module _ (c : After-line_along-l) where
   along : Along c.args.caps.now nan (part_from c.args.at (length c.args.frame.now) (second_interleaved c.loop-m.values)) c.loop-m.m c.stretch_from-r.result c.loop-m.m.x c.loop-m.m.k c.args.frame.now
   along = along_starts c.loop-m.invariant.0 c.stretch_from-r.ensures
-
   inside : Within (length c.args.frame.now) (length c.args.frame.now) (line_along c.loop-m.m c.stretch_from-r.result)
   inside =
       stretch_within along (part_length (second_interleaved c.loop-m.values) c.args.at _ c.loop-m.invariant.1.fits)
@@ -30,11 +29,12 @@ pub start-m-requires : goal.start-m-requires
 start-m-requires c = let p = c.requires in omega (arith, p.0.bits, p.1, p.2.inside, p.2.most)
 
 pub loop-m-init : goal.loop-m-init
-loop-m-init c = (
-  standing_starts c.start-m.ensures (record { bits = part_length (second_interleaved c.args.values.now) c.args.at _ (fits (goal.at.loop-m-init c).Start) ∙ c.requires.0.bits; room = c.requires.0.room }),
-  over_starts c.args.at (length c.args.frame.now) (second_interleaved c.args.values.now) (fits (goal.at.loop-m-init c).Start),
-  refl,
-)
+loop-m-init c =
+    (
+      standing_starts c.start-m.ensures (record { bits = part_length (second_interleaved c.args.values.now) c.args.at _ (fits (goal.at.loop-m-init c).Start) ∙ c.requires.0.bits; room = c.requires.0.room }),
+      over_starts c.args.at (length c.args.frame.now) (second_interleaved c.args.values.now) (fits (goal.at.loop-m-init c).Start),
+      refl,
+    )
 
 pub stretch_from-r-requires : goal.stretch_from-r-requires
 stretch_from-r-requires c = (c.loop-m.invariant.0.mark, omega arith)
@@ -43,21 +43,21 @@ pub line_along-l-requires : goal.line_along-l-requires
 line_along-l-requires c = c.stretch_from-r.ensures.steps.from
 
 pub take_line-requires : goal.take_line-requires
-take_line-requires c = rw (c.line_along-l.ensures, (turn (goal.at.take_line-requires c).After-line_along-l).loop.invariant.2) (inside (goal.at.take_line-requires c).After-line_along-l, (start (goal.at.take_line-requires c).After-line_along-l).requires.2)
+take_line-requires c = rw (c.line_along-l.ensures, c.loop-m.invariant.2) (inside (goal.at.take_line-requires c).After-line_along-l, c.requires.2)
 
 pub overflow_mul-l : goal.overflow_mul-l
-overflow_mul-l c = rw c.line_along-l.ensures (omega (arith, within_span (inside (goal.at.overflow_mul-l c).After-line_along-l), (start (goal.at.overflow_mul-l c).After-line_along-l).requires.2.inside, (start (goal.at.overflow_mul-l c).After-line_along-l).requires.2.most))
+overflow_mul-l c = rw c.line_along-l.ensures (omega (arith, within_span (inside (goal.at.overflow_mul-l c).After-line_along-l), c.requires.2.inside, c.requires.2.most))
 
 pub overflow_add-m : goal.overflow_add-m
 overflow_add-m c =
     rw c.line_along-l.ensures
-    (omega (arith, within_span (inside (goal.at.overflow_add-m c).After-line_along-l), (along (goal.at.overflow_add-m c).After-line_along-l).leg.mark.fits, (start (goal.at.overflow_add-m c).After-line_along-l).requires.0.bits, (start (goal.at.overflow_add-m c).After-line_along-l).requires.2.inside, (start (goal.at.overflow_add-m c).After-line_along-l).requires.2.most))
+    (omega (arith, within_span (inside (goal.at.overflow_add-m c).After-line_along-l), (along (goal.at.overflow_add-m c).After-line_along-l).leg.mark.fits, c.requires.0.bits, c.requires.2.inside, c.requires.2.most))
 
 pub onward-m-requires : goal.onward-m-requires
 onward-m-requires c =
     let a =
-    through-take (along (goal.at.onward-m-requires c).After-line_along-l) (second_interleaved (turn (goal.at.onward-m-requires c).After-line_along-l).loop.values) (start (goal.at.onward-m-requires c).After-line_along-l).args.at _ refl (inside (goal.at.onward-m-requires c).After-line_along-l) c.line_along-l.ensures (fits (start (goal.at.onward-m-requires c).After-line_along-l)) (turn (goal.at.onward-m-requires c).After-line_along-l).loop.invariant.1 c.take_line.ensures in
-    (a.leg, λ h. ap (λ (x : Line). (turn (goal.at.onward-m-requires c).After-line_along-l).loop.m.k + x.count * c.stretch_from-r.result.stride) c.line_along-l.ensures ∙ a.bit h)
+    through-take (along (goal.at.onward-m-requires c).After-line_along-l) (second_interleaved c.loop-m.values) c.args.at _ refl (inside (goal.at.onward-m-requires c).After-line_along-l) c.line_along-l.ensures (fits (goal.at.onward-m-requires c).Start) c.loop-m.invariant.1 c.take_line.ensures in
+    (a.leg, λ h. ap (λ (x : Line). c.loop-m.m.k + x.count * c.stretch_from-r.result.stride) c.line_along-l.ensures ∙ a.bit h)
 
 pub loop-m-smaller : goal.loop-m-smaller
 loop-m-smaller c = c.onward-m.ensures.nearer
@@ -65,10 +65,10 @@ loop-m-smaller c = c.onward-m.ensures.nearer
 pub loop-m-preserved : goal.loop-m-preserved
 loop-m-preserved c =
     let e = c.take_line.ensures in
-    let S = second_interleaved (turn (goal.at.loop-m-preserved c).After-line_along-l).loop.values in (
-      standing_next (through-take (along (goal.at.loop-m-preserved c).After-line_along-l) S (start (goal.at.loop-m-preserved c).After-line_along-l).args.at _ refl (inside (goal.at.loop-m-preserved c).After-line_along-l) c.line_along-l.ensures (fits (start (goal.at.loop-m-preserved c).After-line_along-l)) (turn (goal.at.loop-m-preserved c).After-line_along-l).loop.invariant.1 e) c.onward-m.ensures,
-      through_over (along (goal.at.loop-m-preserved c).After-line_along-l) S (start (goal.at.loop-m-preserved c).After-line_along-l).args.at _ refl (inside (goal.at.loop-m-preserved c).After-line_along-l) c.line_along-l.ensures (fits (start (goal.at.loop-m-preserved c).After-line_along-l)) (turn (goal.at.loop-m-preserved c).After-line_along-l).loop.invariant.1 e,
-      c.values-1.given ∙ (turn (goal.at.loop-m-preserved c).After-line_along-l).loop.invariant.2,
+    let S = second_interleaved c.loop-m.values in (
+      standing_next (through-take (along (goal.at.loop-m-preserved c).After-line_along-l) S c.args.at _ refl (inside (goal.at.loop-m-preserved c).After-line_along-l) c.line_along-l.ensures (fits (goal.at.loop-m-preserved c).Start) c.loop-m.invariant.1 e) c.onward-m.ensures,
+      through_over (along (goal.at.loop-m-preserved c).After-line_along-l) S c.args.at _ refl (inside (goal.at.loop-m-preserved c).After-line_along-l) c.line_along-l.ensures (fits (goal.at.loop-m-preserved c).Start) c.loop-m.invariant.1 e,
+      c.values-1.given ∙ c.loop-m.invariant.2,
     )
 
 pub shape_of-values : goal.shape_of-values

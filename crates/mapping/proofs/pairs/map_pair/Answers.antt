@@ -33,11 +33,11 @@ pub line_of-l-requires : goal.line_of-l-requires
 line_of-l-requires c = let t = c.pair_of-t.ensures in (t.fit, omega (arith, t.run, t.other))
 
 pub put_line-requires : goal.put_line-requires
-put_line-requires c = rw c.loop-j.invariant.1 (inside (goal.at.put_line-requires c).After-line_of-l, (start (goal.at.put_line-requires c).After-line_of-l).requires.1)
+put_line-requires c = rw c.loop-j.invariant.1 (inside (goal.at.put_line-requires c).After-line_of-l, c.requires.1)
 
 pub loop-j-preserved : goal.loop-j-preserved
 loop-j-preserved c =
-    let s = start (goal.at.loop-j-preserved c).After-line_of-l in
+    let s = (goal.at.loop-j-preserved c).Start in
     let l = c.line_of-l.result in
     let o = c.loop-j in
     let e = c.put_line.ensures in (

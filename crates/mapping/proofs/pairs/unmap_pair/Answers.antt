@@ -17,21 +17,16 @@ fits c = omega (arith, second-length c.args.values.now, c.requires.1.inside)
 module _ (c : After-line_of-l) where
   abbrev S : List Float
   S = second_interleaved c.loop-j.values
-
   sized : length (part_from c.args.at (length c.args.frame.now) S) ≡ length c.args.frame.now
   sized = part_length S c.args.at _ c.loop-j.invariant.1.fits
-
   inside : Within (length c.args.frame.now) (length c.args.frame.now) c.line_of-l.result
   inside =
       rw sized at (line-within c.pair_of-t.ensures.fit _ _ c.line_of-l.ensures c.loop-j.invariant.0)
-
   -- what it takes
   abbrev taken : List Float
   taken = copied nan (spot_on c.line_of-l.result) (bit_on c.line_of-l.result) c.args.frame.now c.line_of-l.result.count (part_from c.args.at (length c.args.frame.now) S)
-
   many : length taken ≡ length c.args.frame.now
   many = copied-length nan (spot_on c.line_of-l.result) (bit_on c.line_of-l.result) c.args.frame.now (part_from c.args.at (length c.args.frame.now) S) c.line_of-l.result.count ∙ sized
-
   over : copied nan (spot_on c.line_of-l.result) (index_on c.args.at c.line_of-l.result) c.args.frame.now c.line_of-l.result.count S
       ≡ put_mid c.args.at (length c.args.frame.now) S taken
   over = copied_over nan (spot_on c.line_of-l.result) (bit_on c.line_of-l.result) c.args.at _ c.args.frame.now S c.line_of-l.result.count c.loop-j.invariant.1.fits inside.given
@@ -51,15 +46,15 @@ pub line_of-l-requires : goal.line_of-l-requires
 line_of-l-requires c = let t = c.pair_of-t.ensures in (t.fit, omega (arith, t.run, t.other))
 
 pub take_line-requires : goal.take_line-requires
-take_line-requires c = rw (turn (goal.at.take_line-requires c).After-line_of-l).loop.invariant.2 (inside (goal.at.take_line-requires c).After-line_of-l, (start (goal.at.take_line-requires c).After-line_of-l).requires.1)
+take_line-requires c = rw c.loop-j.invariant.2 (inside (goal.at.take_line-requires c).After-line_of-l, c.requires.1)
 
 pub loop-j-preserved : goal.loop-j-preserved
 loop-j-preserved c =
     let e = c.take_line.ensures ∙ over (goal.at.loop-j-preserved c).After-line_of-l in (
-      line-take c.pair_of-t.ensures.fit _ _ c.line_of-l.ensures (turn (goal.at.loop-j-preserved c).After-line_of-l).loop.invariant.0
-          (over_part (taken (goal.at.loop-j-preserved c).After-line_of-l) (fits (start (goal.at.loop-j-preserved c).After-line_of-l)) (turn (goal.at.loop-j-preserved c).After-line_of-l).loop.invariant.1 (many (goal.at.loop-j-preserved c).After-line_of-l) e),
-      over_more (taken (goal.at.loop-j-preserved c).After-line_of-l) (fits (start (goal.at.loop-j-preserved c).After-line_of-l)) (turn (goal.at.loop-j-preserved c).After-line_of-l).loop.invariant.1 (many (goal.at.loop-j-preserved c).After-line_of-l) e,
-      c.values-1.given ∙ (turn (goal.at.loop-j-preserved c).After-line_of-l).loop.invariant.2,
+      line-take c.pair_of-t.ensures.fit _ _ c.line_of-l.ensures c.loop-j.invariant.0
+          (over_part (taken (goal.at.loop-j-preserved c).After-line_of-l) (fits (goal.at.loop-j-preserved c).Start) c.loop-j.invariant.1 (many (goal.at.loop-j-preserved c).After-line_of-l) e),
+      over_more (taken (goal.at.loop-j-preserved c).After-line_of-l) (fits (goal.at.loop-j-preserved c).Start) c.loop-j.invariant.1 (many (goal.at.loop-j-preserved c).After-line_of-l) e,
+      c.values-1.given ∙ c.loop-j.invariant.2,
     )
 
 pub shape_of-values : goal.shape_of-values

@@ -11,11 +11,9 @@ use Rattle.mapping.proofs.short.map_between.Goals as goal
 -- the slot's bits fill the first part of the room
 module _ (g : After-put_line) where
   abbrev bits : List ℕ
-  bits = g.put_line.last.1.1.1.1.1.0
-
+  bits = g.put_line.new.frame
   full : length bits ≡ length g.args.frame.now
-  full = g.put_line.kept.1.1.1.1.1.0 ∙ length-take-le _ _ g.requires.2
-
+  full = g.put_line.auto.frame ∙ length-take-le _ _ g.requires.2
   front : let n = length g.args.frame.now in take n (bits ++ drop n g.args.room.now) ≡ bits
   front = take_at bits _ _ full
 
@@ -31,11 +29,11 @@ pub slice_bounds-map_laid-end-2 : goal.slice_bounds-map_laid-end-2
 slice_bounds-map_laid-end-2 c = sym (ap (λ (l : List ℕ). length l) (front (goal.at.slice_bounds-map_laid-end-2 c).After-put_line) ∙ full (goal.at.slice_bounds-map_laid-end-2 c).After-put_line)
 
 pub map_laid-requires : goal.map_laid-requires
-map_laid-requires c = (record { bits = ap (λ (l : List ℕ). length l) (front (goal.at.map_laid-requires c).After-put_line) ∙ full (goal.at.map_laid-requires c).After-put_line ∙ (s (goal.at.map_laid-requires c).After-put_line).requires.0.bits; room = (s (goal.at.map_laid-requires c).After-put_line).requires.0.room }, (s (goal.at.map_laid-requires c).After-put_line).requires.1)
+map_laid-requires c = (record { bits = ap (λ (l : List ℕ). length l) (front (goal.at.map_laid-requires c).After-put_line) ∙ full (goal.at.map_laid-requires c).After-put_line ∙ c.requires.0.bits; room = c.requires.0.room }, c.requires.1)
 
 pub returns : goal.returns
 returns c =
-    let a = (s (goal.at.returns c).After-put_line).args in
+    let a = c.args in
     let S = second_interleaved a.bits.now in
     let n = length a.frame.now in
     c.map_laid.ensures
@@ -43,4 +41,4 @@ returns c =
     (front (goal.at.returns c).After-put_line
     ∙ c.put_line.ensures
     ∙ ap (λ (l : Line). copied 0 (index_on a.at l) (spot_on l) S l.count (take n a.room.now)) c.whole_line.ensures
-    ∙ whole_put 0 a.at n S (take n a.room.now) (omega (arith, second-length a.bits.now, (s (goal.at.returns c).After-put_line).requires.3.inside)) (length-take-le _ _ (s (goal.at.returns c).After-put_line).requires.2))
+    ∙ whole_put 0 a.at n S (take n a.room.now) (omega (arith, second-length a.bits.now, c.requires.3.inside)) (length-take-le _ _ c.requires.2))

@@ -12,11 +12,9 @@ use Rattle.mapping.proofs.short.unmap_between.Goals as goal
 -- the slot's values fill the first part of the room
 module _ (g : After-unmap_laid) where
   abbrev laid : List Float
-  laid = g.unmap_laid.last.1.1.0
-
+  laid = g.unmap_laid.new.bits
   full : length laid ≡ length g.args.frame.now
-  full = g.unmap_laid.kept.1.1.0 ∙ length-take-le _ _ g.requires.2
-
+  full = g.unmap_laid.auto.bits ∙ length-take-le _ _ g.requires.2
   front : let n = length g.args.frame.now in take n (laid ++ drop n g.args.room.now) ≡ laid
   front = take_at laid _ _ full
 
@@ -32,15 +30,15 @@ slice_bounds-take_line-end-2 c = sym (ap (λ (l : List Float). length l) (front 
 pub take_line-requires : goal.take_line-requires
 take_line-requires c =
     let e = ap (λ (l : List Float). length l) (front (goal.at.take_line-requires c).After-unmap_laid) ∙ full (goal.at.take_line-requires c).After-unmap_laid in
-    rw (e, c.whole_line.ensures) (whole-within _ (omega (arith, (s (goal.at.take_line-requires c).After-unmap_laid).requires.3.inside, (s (goal.at.take_line-requires c).After-unmap_laid).requires.3.most)), (s (goal.at.take_line-requires c).After-unmap_laid).requires.3)
+    rw (e, c.whole_line.ensures) (whole-within _ (omega (arith, c.requires.3.inside, c.requires.3.most)), c.requires.3)
 
 pub returns : goal.returns
 returns c =
-    let a = (s (goal.at.returns c).After-unmap_laid).args in
+    let a = c.args in
     let S = second_interleaved a.values.now in
     let n = length a.frame.now in
     let v = take n (laid (goal.at.returns c).After-unmap_laid ++ drop n a.room.now) in
     c.take_line.ensures
     ∙ ap (λ (l : Line). copied nan (spot_on l) (index_on a.at l) v l.count S) c.whole_line.ensures
-    ∙ whole_take nan a.at n S v (omega (arith, second-length a.values.now, (s (goal.at.returns c).After-unmap_laid).requires.3.inside)) (ap (λ (l : List Float). length l) (front (goal.at.returns c).After-unmap_laid) ∙ full (goal.at.returns c).After-unmap_laid)
+    ∙ whole_take nan a.at n S v (omega (arith, second-length a.values.now, c.requires.3.inside)) (ap (λ (l : List Float). length l) (front (goal.at.returns c).After-unmap_laid) ∙ full (goal.at.returns c).After-unmap_laid)
     ∙ ap (put_mid a.at n S) (front (goal.at.returns c).After-unmap_laid ∙ c.unmap_laid.ensures)
