@@ -1,4 +1,6 @@
 // A frame: steps 1 to 9, one after the other.
+#![tactic(auto)]
+
 pub mod building;
 pub mod checking;
 pub mod multiplexing;

@@ -1,7 +1,7 @@
 use mathlib.Core.Path.{sym, ◌∙◌}
 use native.Mathlib.Nat.{zero-add}
 use native.Mathlib.Omega.{arith}
-use borrow.Author.Tests.{eqb-true, not-true, not-false}
+use borrow.Author.Tests.{eqb-true}
 use lib.ListN.{length}
 use lib.Ieee.{nan}
 use Rattle.laws.proofs.FirstFailLaws.{fail_on, fail_here, fail_none}
@@ -20,13 +20,13 @@ pub returns-then-not-in_range : goal.returns-then-not-in_range
 returns-then-not-in_range c =
     let l = c.loop-i in
     let s = c.args.values.now in
-    fail_here in_range s l.i nan (omega arith) (sym c.in_range.ensures ∙ not-true _ c.if-not-in_range.true) l.invariant.1
+    fail_here in_range s l.i nan (omega arith) (sym c.in_range.ensures ∙ c.if-not-in_range.true) l.invariant.1
 
 pub loop-i-preserved : goal.loop-i-preserved
 loop-i-preserved c =
     let l = c.loop-i in
     let s = c.args.values.now in
-    (omega arith, fail_on in_range s l.i nan (omega arith) (sym c.in_range.ensures ∙ not-false _ c.if-not-in_range.false) l.invariant.1)
+    (omega arith, fail_on in_range s l.i nan (omega arith) (sym c.in_range.ensures ∙ c.if-not-in_range.false) l.invariant.1)
 
 pub returns : goal.returns
 returns c =

@@ -2,7 +2,7 @@ use mathlib.Core.Path.{◌≡◌}
 use mathlib.Core.Bool.{true, false≢true}
 use mathlib.Core.Logic.{◌⊎◌, inl, inr, ⊎_elim}
 use native.Mathlib.Omega.{arith}
-use borrow.Author.Tests.{eqb-true, eqb-false}
+
 use lib.ListN.{length}
 use Rattle.pattern.proofs.SegmentLaws.{stands}
 use Rattle.joining.proofs.OnceLaws.{alone, link_alone}
@@ -11,7 +11,7 @@ use Rattle.joining.proofs.linking.link_segment.Goals as goal
 pub link_sent-l-requires : goal.link_sent-l-requires
 link_sent-l-requires c =
     let a = c.args in
-    let one : (a.less ≡ true) ⊎ (a.m ≡ 0) = ⊎_elim (λ w. inl w.taken) (λ w. inr (eqb-true a.m 0 w.1.taken)) c.then-less.branch in (
+    let one : (a.less ≡ true) ⊎ (a.m ≡ 0) = ⊎_elim inl (λ w. inr w.1) c.then-less.either in (
       alone a.less a.m a.n a.e a.values.now c.requires one,
       λ h. record { above = omega arith; top = omega arith; most = λ q. absurd (false≢true q) },
     )
@@ -20,14 +20,14 @@ pub returns-then-less : goal.returns-then-less
 returns-then-less c =
     let a = c.args in
     link_alone a.less a.m a.n a.e a.values.now c.requires
-    (⊎_elim (λ w. inl w.taken) (λ w. inr (eqb-true a.m 0 w.1.taken)) c.then-less.branch)
+    (⊎_elim inl (λ w. inr w.1) c.then-less.either)
     c.link_sent-l.ensures
 
 pub link_sent-requires : goal.link_sent-requires
 link_sent-requires c =
     let a = c.args in
     let s = rw c.if-less.false at c.requires in
-    (s, λ h. stands _ a.m a.n (length a.values.now) a.e s (omega (arith, eqb-false a.m 0 c.if-m-eq0.false)))
+    (s, λ h. stands _ a.m a.n (length a.values.now) a.e s (omega arith))
 
 pub returns : goal.returns
 returns c = rw c.if-less.false c.link_sent.ensures

@@ -1,7 +1,6 @@
 use mathlib.Core.Path.{◌≡◌, refl, sym, ap, ◌∙◌, subst}
 use mathlib.Core.Bool.{false, false≢true}
 use mathlib.Core.List.{List, [], ◌∷◌, map}
-use mathlib.Core.Logic.{⊎_elim}
 use Prim.Native.Nat.{ℕ, ◌+◌, ◌*◌, ◌-◌, ◌^◌, ◌≤◌, ◌<◌}
 use native.Mathlib.Omega.{arith}
 use lib.ListN.{length, take, drop, length-drop}
@@ -19,7 +18,9 @@ use Rattle.joining.proofs.ClipLaws.{clip_heard, clip_fits}
 use Rattle.joining.proofs.HomeLaws.{heard_by}
 use Rattle.joining.proofs.PlaceLaws.{Place, left, place-start, place-room, place-next, left_next}
 use Rattle.joining.proofs.LinkLaws.{link_none, Surveying, survey_start, survey_turn, survey_end}
-use Rattle.joining.proofs.LaneLaws.{Voiced, voiced, Dealt, none_dealt, deal_start, deal_a, deal_b, deal_c, deal_d}
+use Rattle.joining.proofs.LaneLaws.{Voiced, voiced, none_dealt, deal_start, deal_a, deal_b, deal_c, deal_d}
+use Rattle.joining.proofs.linking.link_sent.Invariants.{Held, InLanes}
+use Rattle.joining.proofs.linking.link_sent.Goals.{then-n-gt3, else-n-gt3}
 use Rattle.joining.proofs.linking.link_sent.Goals as goal
 
 record Next (m n : ℕ) (vs : List Float) (e k i e' k' : ℕ) (h : Heard) : Type 0 where
@@ -35,14 +36,6 @@ hears {m} {n} {e} {k} {vs = vs} {h = h} p b t =
     let next = ap (map join_of) (left_next p b t.1 t.2) in
     let q : clipped_of h ≡ join_of (take c (drop k vs)) = ap clipped_of t.0 in
     record { place = place-next p b t.1 t.2; bits = rw (← q) at next; voice = voiced (take c (drop k vs)) q (omega (arith, l)) (rw (clip_heard h) (clip_fits (value_of h) t.3)) }
-
--- l has the first i bits
-abbrev Held : ℕ → ℕ → List Float → List Heard → Link → ℕ → ℕ → ℕ → Type 0
-Held m n vs all l e k i = Place false m n vs e k i × Surveying all l i (map join_of (left false m n vs e k i))
-
--- and so have the lanes
-abbrev InLanes : ℕ → ℕ → List Float → List Heard → ℕ → Link → Link → Link → Link → ℕ → ℕ → ℕ → Type 0
-InLanes m n vs all last a b c d e k i = Place false m n vs e k i × Dealt all a b c d i (map join_of (left false m n vs e k i)) × (last ≤ n - 3)
 
 -- what hear_sent asks for
 asks : {m n e k i : ℕ} {vs : List Float} → Place false m n vs e k i → i < n
@@ -106,7 +99,7 @@ loop-i-init c =
     let x = hears p some h.ensures in
     let w = turn (p, s) some h.ensures c.with.ensures in
     let d = deal_start new.result (clipped_of h.result.heard) (ap (λ (l : Link). l.punctured) (new.ensures ∙ link_none)) c.with.ensures x.voice c.new-w.ensures w.1 in
-    (x.place, d, ⊎_elim (λ w. omega (arith, w)) (λ w. omega (arith, w)) c.if-n-gt3.branch)
+    (x.place, d, elim c.if-n-gt3.branch [ then-n-gt3 w ↦ omega arith | else-n-gt3 w ↦ omega arith ])
 
 pub hear_four-s-requires : goal.hear_four-s-requires
 hear_four-s-requires c = let l = c.loop-i in asks-four l.invariant.0 c.loop-i-test.true l.invariant.2
@@ -123,7 +116,7 @@ pub loop-i-smaller : goal.loop-i-smaller
 loop-i-smaller c =
     let l = c.loop-i in
     let n = c.args.n in
-    (there l.i c.if-n-gt3.new n c.loop-i-test.true l.invariant.2).4
+    (there l.i c.if-n-gt3.last n c.loop-i-test.true l.invariant.2).4
 
 pub loop-i-preserved : goal.loop-i-preserved
 loop-i-preserved c =
@@ -132,7 +125,7 @@ loop-i-preserved c =
     let v = a.values.now in
     let all = heard_of (signed_by false a.m) a.n a.start v in
     let h = c.hear_four-s in
-    let last = c.if-n-gt3.new in
+    let last = c.if-n-gt3.last in
     let b = there l.i last a.n c.loop-i-test.true l.invariant.2 in
     let x = hears l.invariant.0 b.0 h.ensures.first in
     let y = hears x.place b.1 h.ensures.second in

@@ -1,11 +1,11 @@
 use mathlib.Core.Path.{ap, ◌∙◌}
 use mathlib.Core.Bool.{true, false}
-use mathlib.Core.Logic.{⊎_elim}
 use Rattle.joining.specs.declared.linking.Link.{Link}
 use Rattle.joining.specs.Joining.{clipped}
 use Rattle.joining.specs.Linked.{capped}
 use Rattle.joining.proofs.ClipLaws.{magnitude_clip}
 use Rattle.joining.proofs.LinkLaws.{first-value, later-value}
+use Rattle.joining.proofs.linking.Link.with_value.Goals.{then-a-self, else-a-self}
 use Rattle.joining.proofs.linking.Link.with_value.Goals as goal
 
 pub returns-then-self-before : goal.returns-then-self-before
@@ -20,10 +20,10 @@ returns-then-self-a c =
     let e = c.cap-a.ensures ∙ ap capped c.magnitude.ensures ∙ magnitude_clip a.x in
     let no = c.if-self-before.false in
     let greatest : Link → Link = λ l. record { least = l.least; greatest = k; punctured = l.punctured } in
-    ⊎_elim
-    (λ w. ap greatest w.1 ∙ later-value a.self a.before (clipped a.x) k true true no e w.0.taken c.if-self-a.true)
-    (λ w. ap greatest w.1 ∙ later-value a.self a.before (clipped a.x) k false true no e w.0.left c.if-self-a.true)
-    c.if-a-self.branch
+    elim c.if-a-self.branch [
+      then-a-self w ↦ ap greatest w.l-is ∙ later-value a.self a.before (clipped a.x) k true true no e w.if-a-self.true c.if-self-a.true
+    | else-a-self w ↦ ap greatest w.l-is ∙ later-value a.self a.before (clipped a.x) k false true no e w.if-a-self.false c.if-self-a.true
+    ]
 
 pub returns-else-self-a : goal.returns-else-self-a
 returns-else-self-a c =
@@ -31,7 +31,7 @@ returns-else-self-a c =
     let k = c.cap-a.result in
     let e = c.cap-a.ensures ∙ ap capped c.magnitude.ensures ∙ magnitude_clip a.x in
     let no = c.if-self-before.false in
-    ⊎_elim
-    (λ w. w.1 ∙ later-value a.self a.before (clipped a.x) k true false no e w.0.taken c.if-self-a.false)
-    (λ w. w.1 ∙ later-value a.self a.before (clipped a.x) k false false no e w.0.left c.if-self-a.false)
-    c.if-a-self.branch
+    elim c.if-a-self.branch [
+      then-a-self w ↦ w.l-is ∙ later-value a.self a.before (clipped a.x) k true false no e w.if-a-self.true c.if-self-a.false
+    | else-a-self w ↦ w.l-is ∙ later-value a.self a.before (clipped a.x) k false false no e w.if-a-self.false c.if-self-a.false
+    ]
