@@ -85,7 +85,7 @@ loop-i-preserved c =
     let f = c.args.frame.0 in
     let part = (content_part (o (goal.at.loop-i-preserved c).After-count) (opens (goal.at.loop-i-preserved c).After-count) (i (goal.at.loop-i-preserved c).After-count) (inside (goal.at.loop-i-preserved c).After-count) c.args.contents.now l.invariant.1 c.count.ensures.0 c.requires.1).0 in
     let g = y.ensures ∙ ap (λ (x : List ℕ). sent_of as_is sh f (i (goal.at.loop-i-preserved c).After-count) (equalised 0 (tti_of sh (i (goal.at.loop-i-preserved c).After-count)) (size_of sh (i (goal.at.loop-i-preserved c).After-count)) x)) part in
-    let n = y.auto.1.1.1.1.1.1.0 ∙ part_length l.out _ _ (up (goal.at.loop-i-preserved c).After-count) (last (goal.at.loop-i-preserved c).After-count) in
+    let n = y.auto.out ∙ part_length l.out _ _ (up (goal.at.loop-i-preserved c).After-count) (last (goal.at.loop-i-preserved c).After-count) in
     let m = sent_more (o (goal.at.loop-i-preserved c).After-count) (opens (goal.at.loop-i-preserved c).After-count) (i (goal.at.loop-i-preserved c).After-count) (inside (goal.at.loop-i-preserved c).After-count) (λ j. sent_of as_is sh f j (bits_of sh c.args.contents.now j)) c.args.out.now l.out l.invariant.3 n g in (
       omega arith,
       sum_more (encoded_of sh) (i (goal.at.loop-i-preserved c).After-count) l.invariant.1 c.count.ensures.0,
