@@ -1,4 +1,6 @@
 // What several calls ask first: the sheet, the frame number, the channel, the lengths, and that the values lent are bits or in range.
+#![tactic(auto)]
+
 ghost use Rattle.std.specs.Prelude.{◌≡◌, ◌||◌};
 ghost use Rattle.joining.specs.Range.{in_range};
 ghost use Rattle.frame.specs.Bit.{is_bit};

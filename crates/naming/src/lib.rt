@@ -1,4 +1,6 @@
 // The name of a place: which copy of which bit of which channel stands there, by direct calculation.
+#![tactic(auto)]
+
 ghost use Rattle.std.specs.Prelude.{◌≡◌, ◌+◌, ◌*◌, ◌%◌, ◌≤◌, ◌<◌};
 ghost use Rattle.sheet.specs.Counts.{most_tti, most_encoded};
 ghost use Rattle.sheet.specs.Sizes.{frames_in, capacity_all};
