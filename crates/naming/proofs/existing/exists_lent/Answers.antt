@@ -64,10 +64,10 @@ bounds-caps-m c = omega (arith, slot-there (goal.at.bounds-caps-m c).Then-is_amo
 
 pub returns-then-is_among-3 : goal.returns-then-is_among-3
 returns-then-is_among-3 c =
-    let a = (s (goal.at.returns-then-is_among-3 c).Then-is_among-2).args in
+    let a = c.args in
     c.is_among-then-is_among-3.ensures
-    ∙ ap₂ (λ (l : List ℕ) (p : ℕ). among a.place (get_or l (most_codes * (a.slot - 1) + p) 0)) (s (goal.at.returns-then-is_among-3 c).Then-is_among-2).pre.2 c.index.ensures
-    ∙ asked_all a.fields a.subframe a.slot a.phch.0 a.place (subframe-asked c.before.before) (slot-asked (goal.at.returns-then-is_among-3 c).Then-is_among-2) (phch-asked (goal.at.returns-then-is_among-3 c).Then-is_among-3)
+    ∙ ap₂ (λ (l : List ℕ) (p : ℕ). among a.place (get_or l (most_codes * (a.slot - 1) + p) 0)) c.requires.2 c.index.ensures
+    ∙ asked_all a.fields a.subframe a.slot a.phch.0 a.place (subframe-asked (goal.at.returns-then-is_among-3 c).Then-is_among) (slot-asked (goal.at.returns-then-is_among-3 c).Then-is_among-2) (phch-asked (goal.at.returns-then-is_among-3 c).Then-is_among-3)
 
 pub returns-else-is_among-3 : goal.returns-else-is_among-3
 returns-else-is_among-3 c =

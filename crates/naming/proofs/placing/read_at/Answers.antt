@@ -11,7 +11,7 @@ use Rattle.frame.proofs.FrameLaws.{share_room}
 use Rattle.naming.specs.Name.{read_from}
 use Rattle.naming.proofs.Slots.{bit-inside, bit-shared, read_below}
 use Rattle.naming.proofs.PlacingLaws.{start_asks, start_is, size_asks, size_is, read_over, read_each}
-use Rattle.naming.proofs.placing.read_at.Goals.{After-slot_size-c, After-slot_start-start, After-source_at-2, After-subframe_places-w, After-subframes-all, Start}
+use Rattle.naming.proofs.placing.read_at.Goals.{After-slot_start-start, After-source_at-2, After-subframe_places-w, After-subframes-all, Start}
 use Rattle.naming.proofs.placing.read_at.Goals as goal
 
 -- the sheet, D, and what is known of the slot's bit
@@ -67,7 +67,7 @@ each : (c : After-source_at-2)
 each c =
     let a = c.args in
     let e =
-    read_each (f (goal.at-After-source_at-2 c).Start) a.h a.t a.k (goal.at-After-source_at-2 c).After-slot_size-c.before.before.before.if1.false (begins (goal.at-After-source_at-2 c).After-subframes-all) (long (goal.at-After-source_at-2 c).After-subframes-all) (ap (λ (n : ℕ). n + a.k) (at (goal.at-After-source_at-2 c).After-subframes-all)) c.source_at-2.ensures.0
+    read_each (f (goal.at-After-source_at-2 c).Start) a.h a.t a.k c.if-opened-eq0.false (begins (goal.at-After-source_at-2 c).After-subframes-all) (long (goal.at-After-source_at-2 c).After-subframes-all) (ap (λ (n : ℕ). n + a.k) (at (goal.at-After-source_at-2 c).After-subframes-all)) c.source_at-2.ensures.0
     in
     (e, omega (arith, e, below (goal.at-After-source_at-2 c).Start))
 
