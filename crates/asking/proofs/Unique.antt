@@ -5,34 +5,40 @@ use Rattle.counters.specs.Promised.{Promised, TakesAll, DeterminedAs, seen}
 use Rattle.counters.proofs.PromiseLaws.{alone, with_lasts}
 use Rattle.asking.specs.Naming.{Naming}
 use Rattle.asking.proofs.sizes as Sizes
+use Rattle.asking.specs.contracts.sizes as SizesContract
 use Rattle.asking.proofs.channel as Channel
+use Rattle.asking.specs.contracts.channel as ChannelContract
 use Rattle.asking.proofs.name.name as Name
+use Rattle.asking.specs.contracts.name.name as NameContract
 use Rattle.asking.proofs.part.part as Part
+use Rattle.asking.specs.contracts.part.part as PartContract
 use Rattle.asking.proofs.part.part_bits as PartBits
+use Rattle.asking.specs.contracts.part.part_bits as PartBitsContract
 use Rattle.asking.proofs.part.part_soft as PartSoft
+use Rattle.asking.specs.contracts.part.part_soft as PartSoftContract
 
-pub sizes : Promised Sizes.ended Sizes.Reads.Asked Sizes.Reads.Learnt
+pub sizes : Promised SizesContract.ended Sizes.Reads.Asked Sizes.Reads.Learnt
 sizes = record { takes_all = λ κs inputs. tt; one_answer = λ κs inputs x y v w. alone }
 
-pub channel : Promised Channel.ended Channel.Reads.Asked Channel.Reads.Learnt
+pub channel : Promised ChannelContract.ended Channel.Reads.Asked Channel.Reads.Learnt
 channel = record { takes_all = λ κs inputs. tt; one_answer = λ κs inputs x y v w. alone }
 
-pub name : Promised Name.ended Name.Reads.Asked Name.Reads.Learnt
+pub name : Promised NameContract.ended Name.Reads.Asked Name.Reads.Learnt
 name =
     record {
       takes_all = λ κs inputs. tt;
       one_answer = λ κs inputs x y v w. with_lasts (λ (z : Naming). record { number = z.number; name = record { trch = record { 0 = z.name.channel }; bit = record { 0 = z.name.bit }; copy = z.name.copy } }) (λ (z : Naming). v);
     }
 
-pub part : Promised Part.ended Part.Reads.Asked Part.Reads.Learnt
+pub part : Promised PartContract.ended Part.Reads.Asked Part.Reads.Learnt
 part = record { takes_all = λ κs inputs. tt; one_answer = λ κs inputs x y v w. alone }
 
 -- a part that is handed back is known by where it lies and what lies there
 pair_alone : {X Y L : Type 0} {l : L} {a b c : X} {d e f : Y} → a ≡ c → b ≡ c → d ≡ f → e ≡ f → (◌≡◌ {A = X × Y} (a, d) (b, e)) × (l ≡ l)
 pair_alone p q r s = (λ i. ((p ∙ sym q) i, (r ∙ sym s) i), refl)
 
-pub part-bits : TakesAll PartBits.ended PartBits.Reads.Asked × DeterminedAs PartBits.ended (λ κs r. seen r) PartBits.Reads.Learnt
+pub part-bits : TakesAll PartBitsContract.ended PartBits.Reads.Asked × DeterminedAs PartBitsContract.ended (λ κs r. seen r) PartBits.Reads.Learnt
 part-bits = (λ κs inputs. tt, λ κs inputs x y v w p q. pair_alone p.1 q.1 p.0 q.0)
 
-pub part-soft : TakesAll PartSoft.ended PartSoft.Reads.Asked × DeterminedAs PartSoft.ended (λ κs r. seen r) PartSoft.Reads.Learnt
+pub part-soft : TakesAll PartSoftContract.ended PartSoft.Reads.Asked × DeterminedAs PartSoftContract.ended (λ κs r. seen r) PartSoft.Reads.Learnt
 part-soft = (λ κs inputs. tt, λ κs inputs x y v w p q. pair_alone p.1 q.1 p.0 q.0)

@@ -1,4 +1,6 @@
 // What a sheet's numbers are: its sizes, and those of one channel. A part and a name are asked for in the modules.
+#![tactic(auto)]
+
 ghost use Rattle.std.specs.Prelude.{◌≡◌, ◌<◌};
 ghost use Rattle.opening.specs.Opened.{Opens};
 ghost use Rattle.asking.specs.Asking.{sizes_in, sizes_answer, channel_in, no_channel, channel_answer};

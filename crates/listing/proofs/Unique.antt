@@ -2,6 +2,7 @@
 use Rattle.counters.specs.Promised.{Promised}
 use Rattle.counters.proofs.PromiseLaws.{alone}
 use Rattle.listing.proofs.list_sheet as ListSheet
+use Rattle.listing.specs.contracts.list_sheet as ListSheetContract
 
-pub list_sheet : Promised ListSheet.ended ListSheet.Reads.Asked ListSheet.Reads.Learnt
+pub list_sheet : Promised ListSheetContract.ended ListSheet.Reads.Asked ListSheet.Reads.Learnt
 list_sheet = record { takes_all = λ κs inputs. tt; one_answer = λ κs inputs x y v w p q. alone p.0 q.0 }

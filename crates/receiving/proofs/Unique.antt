@@ -6,22 +6,27 @@ use Rattle.counters.specs.Promised.{Promised}
 use Rattle.counters.proofs.PromiseLaws.{alone}
 use Rattle.looking.proofs.OutcomeLaws.{answer_and}
 use Rattle.receiving.proofs.gather as Gather
+use Rattle.receiving.specs.contracts.gather as GatherContract
 use Rattle.receiving.proofs.take_back as TakeBack
+use Rattle.receiving.specs.contracts.take_back as TakeBackContract
 use Rattle.receiving.proofs.finishing.finish as Finish
+use Rattle.receiving.specs.contracts.finishing.finish as FinishContract
 use Rattle.receiving.proofs.listening.heard as Heard
+use Rattle.receiving.specs.contracts.listening.heard as HeardContract
 use Rattle.receiving.proofs.listening.link as Link
+use Rattle.receiving.specs.contracts.listening.link as LinkContract
 
-pub gather : Promised Gather.ended Gather.Reads.Asked Gather.Reads.Learnt
+pub gather : Promised GatherContract.ended Gather.Reads.Asked Gather.Reads.Learnt
 gather = record { takes_all = λ κs inputs. tt; one_answer = λ κs inputs x y v w. answer_and (λ (buffer : List Float). (tt, (tt, (buffer, tt)))) }
 
-pub take_back : Promised TakeBack.ended TakeBack.Reads.Asked TakeBack.Reads.Learnt
+pub take_back : Promised TakeBackContract.ended TakeBack.Reads.Asked TakeBack.Reads.Learnt
 take_back = record { takes_all = λ κs inputs. tt; one_answer = λ κs inputs x y v w. answer_and (λ (buffer : List Float). (tt, (tt, (tt, (buffer, tt))))) }
 
-pub finish : Promised Finish.ended Finish.Reads.Asked Finish.Reads.Learnt
+pub finish : Promised FinishContract.ended Finish.Reads.Asked Finish.Reads.Learnt
 finish = record { takes_all = λ κs inputs. tt; one_answer = λ κs inputs x y v w. answer_and (λ (buffer : List Float). (tt, (tt, (tt, (buffer, tt))))) }
 
-pub heard : Promised Heard.ended Heard.Reads.Asked Heard.Reads.Learnt
+pub heard : Promised HeardContract.ended Heard.Reads.Asked Heard.Reads.Learnt
 heard = record { takes_all = λ κs inputs. tt; one_answer = λ κs inputs x y v w. alone }
 
-pub link : Promised Link.ended Link.Reads.Asked Link.Reads.Learnt
+pub link : Promised LinkContract.ended Link.Reads.Asked Link.Reads.Learnt
 link = record { takes_all = λ κs inputs. tt; one_answer = λ κs inputs x y v w. alone }

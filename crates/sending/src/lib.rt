@@ -1,4 +1,6 @@
 // A frame is built: steps 1 to 9, or 1 to 7, or 8 and 9.
+#![tactic(auto)]
+
 ghost use Rattle.std.specs.Prelude.{◌≡◌};
 ghost use Rattle.looking.specs.Outcome.{outcome};
 ghost use Rattle.sending.specs.Building.{build_into, multiplex_into, send_into, spread_into};

@@ -6,14 +6,17 @@ use Rattle.counters.specs.Promised.{Promised}
 use Rattle.counters.proofs.PromiseLaws.{alone}
 use Rattle.looking.proofs.OutcomeLaws.{answer_and}
 use Rattle.sheets.proofs.sheet_read as SheetRead
+use Rattle.sheets.specs.contracts.sheet_read as SheetReadContract
 use Rattle.sheets.proofs.sheet_length as SheetLength
+use Rattle.sheets.specs.contracts.sheet_length as SheetLengthContract
 use Rattle.sheets.proofs.sheet_write as SheetWrite
+use Rattle.sheets.specs.contracts.sheet_write as SheetWriteContract
 
-pub sheet_read : Promised SheetRead.ended SheetRead.Reads.Asked SheetRead.Reads.Learnt
+pub sheet_read : Promised SheetReadContract.ended SheetRead.Reads.Asked SheetRead.Reads.Learnt
 sheet_read = record { takes_all = λ κs inputs. tt; one_answer = λ κs inputs x y v w. alone }
 
-pub sheet_length : Promised SheetLength.ended SheetLength.Reads.Asked SheetLength.Reads.Learnt
+pub sheet_length : Promised SheetLengthContract.ended SheetLength.Reads.Asked SheetLength.Reads.Learnt
 sheet_length = record { takes_all = λ κs inputs. tt; one_answer = λ κs inputs x y v w. alone }
 
-pub sheet_write : Promised SheetWrite.ended SheetWrite.Reads.Asked SheetWrite.Reads.Learnt
+pub sheet_write : Promised SheetWriteContract.ended SheetWrite.Reads.Asked SheetWrite.Reads.Learnt
 sheet_write = record { takes_all = λ κs inputs. tt; one_answer = λ κs inputs x y v w. answer_and (λ (buffer : List ℕ). (tt, (buffer, tt))) }

@@ -1,4 +1,6 @@
 // A sheet is read and written.
+#![tactic(auto)]
+
 ghost use Rattle.std.specs.Prelude.{◌≡◌};
 ghost use Rattle.sheet.specs.Numbers.{read_answer};
 ghost use Rattle.writing.specs.Written.{length_answer};
