@@ -1,4 +1,6 @@
 // The public calls, by name and as C has them: each takes all inputs and asks its refusals in the order of document 01's table.
+#![tactic(auto)]
+
 pub mod exports;
 pub mod exports_home;
 
