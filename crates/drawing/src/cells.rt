@@ -6,6 +6,7 @@ use counters::{FrameNumber, PhchNumber, TrchNumber};
 use naming::PlaceName;
 use sheet::counts::CHANNELS;
 use sheet::wide;
+use std::io;
 use ummervia::name;
 
 // A capacity has 12 bits.
@@ -126,61 +127,69 @@ fn run_end(looks: &[u8; MOST_PLACES], n: usize, layer: u8, line: usize, from: us
 }
 
 // A run in units of cells: `M column line h cells`.
-fn say_run(out: &mut [u8; ROOM], at: usize, line: usize, from: usize, to: usize) -> usize
+fn say_run(
+    rt: &impl Print,
+    out: &mut [u8; ROOM],
+    at: usize,
+    line: usize,
+    from: usize,
+    to: usize,
+) -> io::Result<usize>
     requires { (0 < line) × (from < to) }
 {
-    let a = pair(out, at, b"M", (from % line) as u64);
-    let b = pair(out, a, b" ", (from / line) as u64);
-    pair(out, b, b"h", (to - from) as u64)
+    let a = pair(rt, out, at, b"M", (from % line) as u64)?;
+    let b = pair(rt, out, a, b" ", (from / line) as u64)?;
+    pair(rt, out, b, b"h", (to - from) as u64)
 }
 
 // The class of a layer, which the style sheet colours, and where its strokes lie in the cell.
-fn say_class(out: &mut [u8; ROOM], at: usize, layer: u8) -> usize {
+fn say_class(rt: &impl Print, out: &mut [u8; ROOM], at: usize, layer: u8) -> io::Result<usize> {
     if layer == COPIES {
-        return say(out, at, b"k\" transform=\"translate(0 .33)");
+        return say(rt, out, at, b"k\" transform=\"translate(0 .33)");
     }
     if layer == FILLERS {
-        return say(out, at, b"f\" transform=\"translate(0 -.22)");
+        return say(rt, out, at, b"f\" transform=\"translate(0 -.22)");
     }
     if layer == HOLES {
-        return say(out, at, b"h\" transform=\"translate(0 -.22)");
+        return say(rt, out, at, b"h\" transform=\"translate(0 -.22)");
     }
-    pair(out, at, b"c", layer as u64)
+    pair(rt, out, at, b"c", layer as u64)
 }
 
 // The start of a layer's path, up to its runs.
-fn open_path(out: &mut [u8; ROOM], at: usize, layer: u8) -> usize {
-    let a = say(out, at, b"<path class=\"");
-    let b = say_class(out, a, layer);
-    say(out, b, b"\" d=\"")
+fn open_path(rt: &impl Print, out: &mut [u8; ROOM], at: usize, layer: u8) -> io::Result<usize> {
+    let a = say(rt, out, at, b"<path class=\"")?;
+    let b = say_class(rt, out, a, layer)?;
+    say(rt, out, b, b"\" d=\"")
 }
 
 // One cell of a layer, for the legend. Layer 0 is no channel's.
-pub fn say_cell(out: &mut [u8; ROOM], at: usize, layer: u8) -> usize {
-    let a = open_path(out, at, layer);
-    say(out, a, b"M0 0h1\"/>")
+pub fn say_cell(rt: &impl Print, out: &mut [u8; ROOM], at: usize, layer: u8) -> io::Result<usize> {
+    let a = open_path(rt, out, at, layer)?;
+    say(rt, out, a, b"M0 0h1\"/>")
 }
 
 // One layer as a path, or nothing where no place belongs to it.
 pub fn say_layer(
+    rt: &impl Print,
     out: &mut [u8; ROOM],
     at: usize,
     looks: &[u8; MOST_PLACES],
     n: usize,
     layer: u8,
     line: usize,
-) -> usize
+) -> io::Result<usize>
     requires { (n ≤ 4096) × (0 < line) }
 {
     let mut from = run_start(looks, n, layer, 0);
     if from == n {
-        return at;
+        return Ok(at);
     }
-    let mut k = open_path(out, at, layer);
+    let mut k = open_path(rt, out, at, layer)?;
     while from < n {
         let to = run_end(looks, n, layer, line, from);
-        k = say_run(out, k, line, from, to);
+        k = say_run(rt, out, k, line, from, to)?;
         from = run_start(looks, n, layer, to);
     }
-    say(out, k, b"\"/>\n")
+    say(rt, out, k, b"\"/>\n")
 }

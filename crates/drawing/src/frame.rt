@@ -10,6 +10,7 @@ use crate::text::{ROOM, close_text, number, open_text, pair, say};
 use counters::{FrameNumber, PhchNumber};
 use sheet::Sheet;
 use sheet::counts::{CAPACITIES, CHANNELS, CODES, PAIRED};
+use std::io;
 
 // Where the cells begin, in px from the left.
 const LEFT: u64 = 100;
@@ -53,90 +54,133 @@ pub fn bottom(scale: Scale, fields: Sheet, y: u64) -> u64
 }
 
 // The numbers of columns above the cells. A step is 100 px in every scale.
-fn say_columns(out: &mut [u8; ROOM], at: usize, scale: Scale, y: u64) -> usize {
+fn say_columns(
+    rt: &impl Print,
+    out: &mut [u8; ROOM],
+    at: usize,
+    scale: Scale,
+    y: u64,
+) -> io::Result<usize> {
     let mut k = at;
     let mut x = LEFT - cell_width(scale) / 2;
     let mut column: u64 = 0;
     while x < LEFT + 900 {
         x += 100;
         column += step(scale);
-        let a = open_text(out, k, b"o", x, y);
-        let b = number(out, a, column);
-        k = close_text(out, b);
+        let a = open_text(rt, out, k, b"o", x, y)?;
+        let b = number(rt, out, a, column)?;
+        k = close_text(rt, out, b)?;
     }
-    k
+    Ok(k)
 }
 
 // The spreading factors of slot t in uplink. A logarithm has 3 bits, so that no shift goes too far.
-fn say_factors(out: &mut [u8; ROOM], at: usize, fields: Sheet, t: usize) -> usize
+fn say_factors(
+    rt: &impl Print,
+    out: &mut [u8; ROOM],
+    at: usize,
+    fields: Sheet,
+    t: usize,
+) -> io::Result<usize>
     requires { t < most_slots }
 {
     if fields.uplink == 0 {
-        return at;
+        return Ok(at);
     }
     let logs = fields.logs;
-    let a = pair(out, at, b", SF ", 1u64 << (logs[PAIRED * t] % 8));
+    let a = pair(rt, out, at, b", SF ", 1u64 << (logs[PAIRED * t] % 8))?;
     let phchs = fields.phchs;
     if phchs[t] < 2 {
-        return a;
+        return Ok(a);
     }
-    pair(out, a, b" and ", 1u64 << (logs[PAIRED * t + 1] % 8))
+    pair(rt, out, a, b" and ", 1u64 << (logs[PAIRED * t + 1] % 8))
 }
 
 // The head of a slot, above the first of its capacities.
-fn say_head(out: &mut [u8; ROOM], at: usize, fields: Sheet, scale: Scale, y: u64, m: usize) -> usize
+fn say_head(
+    rt: &impl Print,
+    out: &mut [u8; ROOM],
+    at: usize,
+    fields: Sheet,
+    scale: Scale,
+    y: u64,
+    m: usize,
+) -> io::Result<usize>
     requires { (m < 240) × (y ≤ 690000000) }
 {
     if head(m) == 0 {
-        return at;
+        return Ok(at);
     }
-    let a = open_text(out, at, b"s", 10, y + 20);
-    let b = pair(out, a, b"slot ", (m / CODES + 1) as u64);
-    let c = say_factors(out, b, fields, m / CODES);
-    let d = close_text(out, c);
-    say_columns(out, d, scale, y + 22)
+    let a = open_text(rt, out, at, b"s", 10, y + 20)?;
+    let b = pair(rt, out, a, b"slot ", (m / CODES + 1) as u64)?;
+    let c = say_factors(rt, out, b, fields, m / CODES)?;
+    let d = close_text(rt, out, c)?;
+    say_columns(rt, out, d, scale, y + 22)
 }
 
 // The number of the place that each line of a PhCH of n places begins with.
-fn say_starts(out: &mut [u8; ROOM], at: usize, scale: Scale, y: u64, n: u16) -> usize
+fn say_starts(
+    rt: &impl Print,
+    out: &mut [u8; ROOM],
+    at: usize,
+    scale: Scale,
+    y: u64,
+    n: u16,
+) -> io::Result<usize>
     requires { y ≤ 700000000 }
 {
     let rows = lines(scale, n);
     let mut k = at;
     let mut row: u64 = 0;
     while row < rows {
-        let a = open_text(out, k, b"n", LEFT - 4, y + height(scale, row));
-        let b = number(out, a, start(scale, row));
-        k = close_text(out, b);
+        let a = open_text(rt, out, k, b"n", LEFT - 4, y + height(scale, row))?;
+        let b = number(rt, out, a, start(scale, row))?;
+        k = close_text(rt, out, b)?;
         row += 1;
     }
-    k
+    Ok(k)
 }
 
 // The labels of a PhCH whose cells begin at y.
-fn say_labels(out: &mut [u8; ROOM], at: usize, scale: Scale, y: u64, phch: u64, n: u16) -> usize
+fn say_labels(
+    rt: &impl Print,
+    out: &mut [u8; ROOM],
+    at: usize,
+    scale: Scale,
+    y: u64,
+    phch: u64,
+    n: u16,
+) -> io::Result<usize>
     requires { y ≤ 690000000 }
 {
     let base = y + cell_height(scale) / 2 + 3;
-    let a = open_text(out, at, b"p", 10, base);
-    let b = pair(out, a, b"PhCH ", phch);
-    let c = close_text(out, b);
-    say_starts(out, c, scale, base, n)
+    let a = open_text(rt, out, at, b"p", 10, base)?;
+    let b = pair(rt, out, a, b"PhCH ", phch)?;
+    let c = close_text(rt, out, b)?;
+    say_starts(rt, out, c, scale, base, n)
 }
 
 // The name of the group of a PhCH: its slot and its own number, behind its sub-frame where there are two.
-fn say_id(out: &mut [u8; ROOM], at: usize, lcr: u16, subframe: u32, m: usize) -> usize {
+fn say_id(
+    rt: &impl Print,
+    out: &mut [u8; ROOM],
+    at: usize,
+    lcr: u16,
+    subframe: u32,
+    m: usize,
+) -> io::Result<usize> {
     let a = if lcr == 0 {
         at
     } else {
-        pair(out, at, b"h", subframe as u64)
+        pair(rt, out, at, b"h", subframe as u64)?
     };
-    let b = pair(out, a, b"s", (m / CODES + 1) as u64);
-    pair(out, b, b"p", (m % CODES + 1) as u64)
+    let b = pair(rt, out, a, b"s", (m / CODES + 1) as u64)?;
+    pair(rt, out, b, b"p", (m % CODES + 1) as u64)
 }
 
 // Opens the group of a PhCH, in units of cells; a line's strokes run through the middle of its cells.
 fn open_cells(
+    rt: &impl Print,
     out: &mut [u8; ROOM],
     at: usize,
     lcr: u16,
@@ -144,34 +188,35 @@ fn open_cells(
     subframe: u32,
     y: u64,
     m: usize,
-) -> usize
+) -> io::Result<usize>
     requires { y ≤ 690000000 }
 {
-    let a = say(out, at, b"<g id=\"");
-    let b = say_id(out, a, lcr, subframe, m);
-    let c = pair(out, b, b"\" transform=\"translate(", LEFT);
-    let d = pair(out, c, b" ", y + cell_height(scale) / 2);
-    let e = pair(out, d, b")scale(", cell_width(scale));
-    let f = pair(out, e, b" ", cell_height(scale));
-    say(out, f, b")\">\n")
+    let a = say(rt, out, at, b"<g id=\"")?;
+    let b = say_id(rt, out, a, lcr, subframe, m)?;
+    let c = pair(rt, out, b, b"\" transform=\"translate(", LEFT)?;
+    let d = pair(rt, out, c, b" ", y + cell_height(scale) / 2)?;
+    let e = pair(rt, out, d, b")scale(", cell_width(scale))?;
+    let f = pair(rt, out, e, b" ", cell_height(scale))?;
+    say(rt, out, f, b")\">\n")
 }
 
 fn say_layers(
+    rt: &impl Print,
     out: &mut [u8; ROOM],
     at: usize,
     scale: Scale,
     looks: &[u8; MOST_PLACES],
     n: usize,
-) -> usize
+) -> io::Result<usize>
     requires { n ≤ 4096 }
 {
     let mut k = at;
     let mut layer: u8 = 1;
     while layer < LAYERS {
-        k = say_layer(out, k, looks, n, layer, line(scale));
+        k = say_layer(rt, out, k, looks, n, layer, line(scale))?;
         layer += 1;
     }
-    k
+    Ok(k)
 }
 
 // The places of a PhCH, as many as have room: all of them.
@@ -183,6 +228,7 @@ fn places(n: u16) -> usize
 
 // The cells of the PhCH at index m of the capacities.
 fn say_cells(
+    rt: &impl Print,
     out: &mut [u8; ROOM],
     at: usize,
     sheet: &[u8],
@@ -192,7 +238,7 @@ fn say_cells(
     subframe: u32,
     m: usize,
     n: u16,
-) -> usize
+) -> io::Result<usize>
     requires { m < 240 }
 {
     let mut looks = [0u8; MOST_PLACES];
@@ -200,12 +246,13 @@ fn say_cells(
     let slot = (m / CODES + 1) as u32;
     let phch = PhchNumber((m % CODES + 1) as u32);
     look_at(sheet, frame, e, subframe, slot, phch, &mut looks, k);
-    let a = say_layers(out, at, scale, &looks, k);
-    say(out, a, b"</g>\n")
+    let a = say_layers(rt, out, at, scale, &looks, k)?;
+    say(rt, out, a, b"</g>\n")
 }
 
 // The PhCH at index m of the capacities, below the head of its slot where it is the first; nothing where the capacity is 0.
 fn say_phch(
+    rt: &impl Print,
     out: &mut [u8; ROOM],
     at: usize,
     sheet: &[u8],
@@ -216,22 +263,23 @@ fn say_phch(
     y: u64,
     m: usize,
     n: u16,
-) -> usize
+) -> io::Result<usize>
     requires { (m < 240) × (y ≤ 680000000) }
 {
     if n == 0 {
-        return at;
+        return Ok(at);
     }
     let top = y + head(m);
-    let a = say_head(out, at, fields, scale, y, m);
-    let b = say_labels(out, a, scale, top, (m % CODES + 1) as u64, n);
-    let c = open_cells(out, b, fields.lcr, scale, subframe, top, m);
+    let a = say_head(rt, out, at, fields, scale, y, m)?;
+    let b = say_labels(rt, out, a, scale, top, (m % CODES + 1) as u64, n)?;
+    let c = open_cells(rt, out, b, fields.lcr, scale, subframe, top, m)?;
     let e = fields.e;
-    say_cells(out, c, sheet, frame, e, scale, subframe, m, n)
+    say_cells(rt, out, c, sheet, frame, e, scale, subframe, m, n)
 }
 
 // The slots of a sub-frame: all capacities of the sheet, from y on.
 fn say_slots(
+    rt: &impl Print,
     out: &mut [u8; ROOM],
     at: usize,
     sheet: &[u8],
@@ -240,7 +288,7 @@ fn say_slots(
     scale: Scale,
     subframe: u32,
     y: u64,
-) -> usize
+) -> io::Result<usize>
     requires { y ≤ 340000000 }
 {
     let caps = fields.caps;
@@ -249,15 +297,16 @@ fn say_slots(
     let mut m: usize = 0;
     while m < CAPACITIES {
         let n = caps[m];
-        k = say_phch(out, k, sheet, frame, fields, scale, subframe, top, m, n);
+        k = say_phch(rt, out, k, sheet, frame, fields, scale, subframe, top, m, n)?;
         top += taken(scale, m, n);
         m += 1;
     }
-    k
+    Ok(k)
 }
 
 // One of two sub-frames, below its label, from y on.
 fn say_subframe(
+    rt: &impl Print,
     out: &mut [u8; ROOM],
     at: usize,
     sheet: &[u8],
@@ -266,18 +315,19 @@ fn say_subframe(
     scale: Scale,
     subframe: u32,
     y: u64,
-) -> usize
+) -> io::Result<usize>
     requires { y ≤ 339000000 }
 {
-    let a = open_text(out, at, b"t", 10, y + 18);
-    let b = pair(out, a, b"sub-frame ", subframe as u64);
-    let c = close_text(out, b);
+    let a = open_text(rt, out, at, b"t", 10, y + 18)?;
+    let b = pair(rt, out, a, b"sub-frame ", subframe as u64)?;
+    let c = close_text(rt, out, b)?;
     let top = y + over(fields.lcr);
-    say_slots(out, c, sheet, frame, fields, scale, subframe, top)
+    say_slots(rt, out, c, sheet, frame, fields, scale, subframe, top)
 }
 
 // The frame, from y on.
 pub fn say_frame(
+    rt: &impl Print,
     out: &mut [u8; ROOM],
     at: usize,
     sheet: &[u8],
@@ -285,13 +335,13 @@ pub fn say_frame(
     fields: Sheet,
     scale: Scale,
     y: u64,
-) -> usize
+) -> io::Result<usize>
     requires { y ≤ 1400000 }
 {
     if fields.lcr == 0 {
-        return say_slots(out, at, sheet, frame, fields, scale, 1, y);
+        return say_slots(rt, out, at, sheet, frame, fields, scale, 1, y);
     }
-    let a = say_subframe(out, at, sheet, frame, fields, scale, 1, y);
+    let a = say_subframe(rt, out, at, sheet, frame, fields, scale, 1, y)?;
     let second = subframe_bottom(scale, fields, y);
-    say_subframe(out, a, sheet, frame, fields, scale, 2, second)
+    say_subframe(rt, out, a, sheet, frame, fields, scale, 2, second)
 }

@@ -1,59 +1,73 @@
 // Text gathered in a buffer, so that the system is asked once for a few thousand bytes. `at` is how many of them wait to be written.
 ghost use Rattle.std.specs.Prelude.{◌+◌, ◌≤◌, length};
 
-use libc::STDOUT_FILENO;
+use itoa::Buffer;
+use std::io;
 
 pub const ROOM: usize = 4096;
 
 // Writes what waits.
-pub fn flush(out: &[u8; ROOM], at: usize) {
+pub fn flush(rt: &impl Print, out: &[u8; ROOM], at: usize) -> io::Result<()> {
     let all: &[u8] = out;
     if at <= all.len() {
-        io::write_all(STDOUT_FILENO, &all[..at]);
+        return rt.write_all(&all[..at]);
     }
+    Ok(())
 }
 
 fn lay(out: &mut [u8], at: usize, text: &[u8])
     requires { at + length text.now ≤ length out.old }
 {
     let end = at + text.len();
-    bytes::copy(text, &mut out[at..end]);
+    out[at..end].copy_from_slice(text);
 }
 
 // Each of these adds to the text and answers how many bytes wait then. A text that has no room is written at once, after what waits.
-pub fn say(out: &mut [u8; ROOM], at: usize, text: &[u8]) -> usize {
+pub fn say(rt: &impl Print, out: &mut [u8; ROOM], at: usize, text: &[u8]) -> io::Result<usize> {
     if at <= ROOM {
         if text.len() <= ROOM - at {
             lay(out, at, text);
-            return at + text.len();
+            return Ok(at + text.len());
         }
     }
-    flush(out, at);
-    io::write_all(STDOUT_FILENO, text);
-    0
+    flush(rt, out, at)?;
+    rt.write_all(text)?;
+    Ok(0)
 }
 
-pub fn number(out: &mut [u8; ROOM], at: usize, n: u64) -> usize {
-    let mut d = [0u8; 20];
-    let k = io::decimal(n, &mut d);
-    say(out, at, &d[..k])
+pub fn number(rt: &impl Print, out: &mut [u8; ROOM], at: usize, n: u64) -> io::Result<usize> {
+    let mut digits = Buffer::new();
+    say(rt, out, at, digits.format(n).as_bytes())
 }
 
 // A text and then a number.
-pub fn pair(out: &mut [u8; ROOM], at: usize, text: &[u8], n: u64) -> usize {
-    let a = say(out, at, text);
-    number(out, a, n)
+pub fn pair(
+    rt: &impl Print,
+    out: &mut [u8; ROOM],
+    at: usize,
+    text: &[u8],
+    n: u64,
+) -> io::Result<usize> {
+    let a = say(rt, out, at, text)?;
+    number(rt, out, a, n)
 }
 
 // The start of a text of a class, up to the text itself.
-pub fn open_text(out: &mut [u8; ROOM], at: usize, class: &[u8], x: u64, y: u64) -> usize {
-    let a = say(out, at, b"<text class=\"");
-    let b = say(out, a, class);
-    let c = pair(out, b, b"\" x=\"", x);
-    let d = pair(out, c, b"\" y=\"", y);
-    say(out, d, b"\">")
+pub fn open_text(
+    rt: &impl Print,
+    out: &mut [u8; ROOM],
+    at: usize,
+    class: &[u8],
+    x: u64,
+    y: u64,
+) -> io::Result<usize> {
+    let a = say(rt, out, at, b"<text class=\"")?;
+    let b = say(rt, out, a, class)?;
+    let c = pair(rt, out, b, b"\" x=\"", x)?;
+    let d = pair(rt, out, c, b"\" y=\"", y)?;
+    say(rt, out, d, b"\">")
 }
 
-pub fn close_text(out: &mut [u8; ROOM], at: usize) -> usize {
-    say(out, at, b"</text>\n")
+pub fn close_text(rt: &impl Print, out: &mut [u8; ROOM], at: usize) -> io::Result<usize> {
+    say(rt, out, at, b"</text>\n")
 }

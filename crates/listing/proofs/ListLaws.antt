@@ -1,7 +1,7 @@
 -- Text that is put behind text, and the digits of a number.
-use mathlib.Core.Path.{◌≡◌, sym, ap, ap₂, ◌∙◌, subst}
+use mathlib.Core.Path.{◌≡◌, sym, ap, ◌∙◌, subst}
 use mathlib.Core.Bool.{Bool, cond}
-use mathlib.Core.List.{List, [], ◌∷◌, ◌++◌, append-nil, append_assoc}
+use mathlib.Core.List.{List, [], ◌∷◌, ◌++◌}
 use Prim.Native.Nat.{ℕ, zero, suc, ◌+◌, ◌-◌, ◌^◌, ◌≤◌, ◌<◌}
 use native.Mathlib.Nat.{sub-zero, zero-sub, suc-sub-suc, pow-le-pow_right, le_trans}
 use native.Mathlib.Numerals.{add-one}
@@ -9,8 +9,7 @@ use native.Mathlib.Omega.{arith}
 use native.Mathlib.Decide.{dec_lt}
 use borrow.Author.Tests.{lt-ltb, le-ltb}
 use lib.Dec.{ltb, lit<}
-use borrow.Rule.Slice.PartMut.{mid_of, put_mid, mid_len, Post-is}
-use lib.ListN.{length, take, drop, replicate, length-append, drop_of_length-le}
+use lib.ListN.{length, drop, replicate, length-append}
 use lib.Seq.{paste, length-paste}
 use Rattle.laws.proofs.LaidLaws.{laid_none, laid_more, laid-long}
 use Rattle.io.specs.Digits.{last_digits, IsDigitCount}
@@ -23,16 +22,6 @@ use Rattle.matching.specs.Shares.{share_of}
 use Rattle.listing.specs.Listing.{room, least_from, decimal_of, Lists, lines_to, head_line, with_line, refusal, listing_of, text_of, followed}
 use Rattle.listing.specs.Ascii.{ascii}
 use Rattle.listing.specs.declared.Text.{Text}
-
--- a part that was lent came back as a copy of t
-pub copied : (out : List ℕ) (at : ℕ) (t : List ℕ) → at + length t ≤ length out → {y : List ℕ}
-    → y ≡ take (length t) t ++ drop (length t) (mid_of at (at + length t - at) out) → put_mid at (at + length t - at) out y ≡ paste out at t (length t)
-copied out at t b {y} e =
-    let n = length t in
-    let rest = mid_of at (at + n - at) out in
-    let z : length rest ≤ n = omega (arith, mid_len at (at + n) out b) in
-    let whole : y ≡ take n t = e ∙ ap (λ (x : List ℕ). take n t ++ x) (drop_of_length-le rest z) ∙ append-nil (take n t) in
-    ap₂ (λ (x l : List ℕ). take at out ++ (x ++ l)) whole (Post-is at (at + n) out (omega arith)) ∙ sym (append_assoc (take at out) (take n t) (drop (at + n) out))
 
 -- a text put behind a text
 pub lists_none : (o : List ℕ) → length o ≡ room → Lists o o 0 []

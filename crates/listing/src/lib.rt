@@ -1,4 +1,6 @@
 // The text that the sheet lister prints, made in a buffer.
+#![tactic(auto)]
+
 ghost use Rattle.std.specs.Prelude.{◌≡◌, List, ◌++◌, ℕ, ◌+◌, ◌≤◌, ◌<◌, length};
 ghost use Rattle.std.proofs.Math.Seq.{paste};
 ghost use Rattle.opening.specs.Opened.{Opens};
@@ -24,7 +26,7 @@ fn put(out: &mut [u8], at: usize, text: &[u8]) -> usize
     ensures { (result ≡ at + length text.now) × (out.new ≡ paste out.old at text.now (length text.now)) }
 {
     let end = at + text.len();
-    bytes::copy(text, &mut out[at..end]);
+    out[at..end].copy_from_slice(text);
     end
 }
 

@@ -2,6 +2,8 @@
 ghost use Rattle.std.specs.Prelude.{◌≤◌};
 
 use counters::FrameNumber;
+use std::env::FillError;
+use std::rt::Env;
 
 // With one digit more; past 255 it stays 256, as does anything that is no digit.
 fn with_digit(n: u32, byte: u8) -> u32
@@ -33,11 +35,11 @@ fn number_of(digits: &[u8]) -> u32 {
 }
 
 // Frame 0 has no fillers, so one has to be able to ask for another.
-pub fn asked() -> FrameNumber {
-    if os::arg_count() < 2 {
-        return FrameNumber(0);
-    }
+pub fn asked(rt: &impl Env) -> FrameNumber {
     let mut digits = [0u8; 20];
-    let n = os::arg(1, &mut digits);
-    FrameNumber(number_of(&digits[..n]))
+    match rt.arg(1, &mut digits) {
+        Ok(n) => FrameNumber(number_of(&digits[..n])),
+        Err(FillError::NotPresent) => FrameNumber(0),
+        Err(FillError::TooLong) => FrameNumber(256),
+    }
 }

@@ -6,6 +6,7 @@ use drawing::cells::{COPIES, FILLERS, HOLES, channel_look, say_cell};
 use drawing::text::{ROOM, close_text, open_text, pair, say};
 use sheet::Sheet;
 use sheet::counts::CHANNELS;
+use std::io;
 use ummervia::{ChannelAnswer, SizesAnswer, channel};
 
 // The middle of the line of the marks and of that of the first channel, and from one channel to the next, in px.
@@ -16,67 +17,80 @@ pub const FIRST: u64 = 84;
 pub const LINE: u64 = 20;
 
 pub fn say_title(
+    rt: &impl Print,
     out: &mut [u8; ROOM],
     at: usize,
     frame: FrameNumber,
     fields: Sheet,
     sizes: SizesAnswer,
-) -> usize {
-    let a = open_text(out, at, b"t", 10, 26);
+) -> io::Result<usize> {
+    let a = open_text(rt, out, at, b"t", 10, 26)?;
     let b = if fields.uplink == 0 {
-        say(out, a, b"UTRA TDD radio frame")
+        say(rt, out, a, b"UTRA TDD radio frame")?
     } else {
-        say(out, a, b"UTRA TDD uplink radio frame")
+        say(rt, out, a, b"UTRA TDD uplink radio frame")?
     };
     let c = if fields.lcr == 0 {
         b
     } else {
-        say(out, b, b" of 1.28 Mcps")
+        say(rt, out, b, b" of 1.28 Mcps")?
     };
-    let d = pair(out, c, b", frame number ", frame.number());
+    let d = pair(rt, out, c, b", frame number ", frame.number())?;
     let e = if fields.mode == 0 {
-        say(out, d, b", mode 0 (second interleaving over the frame)")
+        say(rt, out, d, b", mode 0 (second interleaving over the frame)")?
     } else {
-        say(out, d, b", mode 1 (second interleaving per slot)")
+        say(rt, out, d, b", mode 1 (second interleaving per slot)")?
     };
-    let f = pair(out, e, b", D = ", sizes.capacity);
-    let g = say(out, f, b" places");
-    close_text(out, g)
+    let f = pair(rt, out, e, b", D = ", sizes.capacity)?;
+    let g = say(rt, out, f, b" places")?;
+    close_text(rt, out, g)
 }
 
 // A cell of the size of the legend's text goes between these two, and the text after them.
-fn open_cell(out: &mut [u8; ROOM], at: usize, x: u64, y: u64) -> usize {
-    let a = pair(out, at, b"<g transform=\"translate(", x);
-    let b = pair(out, a, b" ", y);
-    say(out, b, b")scale(16)\">")
+fn open_cell(
+    rt: &impl Print,
+    out: &mut [u8; ROOM],
+    at: usize,
+    x: u64,
+    y: u64,
+) -> io::Result<usize> {
+    let a = pair(rt, out, at, b"<g transform=\"translate(", x)?;
+    let b = pair(rt, out, a, b" ", y)?;
+    say(rt, out, b, b")scale(16)\">")
 }
 
-fn close_cell(out: &mut [u8; ROOM], at: usize, x: u64, y: u64) -> usize
+fn close_cell(rt: &impl Print, out: &mut [u8; ROOM], at: usize, x: u64, y: u64) -> io::Result<usize>
     requires { (x ≤ 1000) × (y ≤ 1000) }
 {
-    let a = say(out, at, b"</g>\n");
-    open_text(out, a, b"l", x + 22, y + 5)
+    let a = say(rt, out, at, b"</g>\n")?;
+    open_text(rt, out, a, b"l", x + 22, y + 5)
 }
 
 // The line of the marks.
-fn open_mark(out: &mut [u8; ROOM], at: usize, x: u64) -> usize {
-    let a = open_cell(out, at, x, MARKS);
-    say_cell(out, a, 0)
+fn open_mark(rt: &impl Print, out: &mut [u8; ROOM], at: usize, x: u64) -> io::Result<usize> {
+    let a = open_cell(rt, out, at, x, MARKS)?;
+    say_cell(rt, out, a, 0)
 }
 
-pub fn say_marks(out: &mut [u8; ROOM], at: usize) -> usize {
-    let a = open_mark(out, at, 10);
-    let b = close_cell(out, a, 10, MARKS);
-    let c = say(out, b, b"a bit, sent first (copy 0)</text>\n");
-    let d = open_mark(out, c, 220);
-    let e = say_cell(out, d, COPIES);
-    let f = close_cell(out, e, 220, MARKS);
-    let g = say(out, f, b"sent again (copy 1, 2, ..): a black foot</text>\n");
-    let h = open_mark(out, g, 520);
-    let i = say_cell(out, h, FILLERS);
-    let j = say_cell(out, i, HOLES);
-    let k = close_cell(out, j, 520, MARKS);
+pub fn say_marks(rt: &impl Print, out: &mut [u8; ROOM], at: usize) -> io::Result<usize> {
+    let a = open_mark(rt, out, at, 10)?;
+    let b = close_cell(rt, out, a, 10, MARKS)?;
+    let c = say(rt, out, b, b"a bit, sent first (copy 0)</text>\n")?;
+    let d = open_mark(rt, out, c, 220)?;
+    let e = say_cell(rt, out, d, COPIES)?;
+    let f = close_cell(rt, out, e, 220, MARKS)?;
+    let g = say(
+        rt,
+        out,
+        f,
+        b"sent again (copy 1, 2, ..): a black foot</text>\n",
+    )?;
+    let h = open_mark(rt, out, g, 520)?;
+    let i = say_cell(rt, out, h, FILLERS)?;
+    let j = say_cell(rt, out, i, HOLES)?;
+    let k = close_cell(rt, out, j, 520, MARKS)?;
     say(
+        rt,
         out,
         k,
         b"a filler (its bit number is above E): a hollow box</text>\n",
@@ -84,45 +98,56 @@ pub fn say_marks(out: &mut [u8; ROOM], at: usize) -> usize {
 }
 
 // What rate matching does to the channel's segment.
-fn say_matching(out: &mut [u8; ROOM], at: usize, of: ChannelAnswer) -> usize {
+fn say_matching(
+    rt: &impl Print,
+    out: &mut [u8; ROOM],
+    at: usize,
+    of: ChannelAnswer,
+) -> io::Result<usize> {
     if of.v < of.n {
-        let a = pair(out, at, b": punctured, ", of.n - of.v);
-        return say(out, a, b" bits left out of each frame");
+        let a = pair(rt, out, at, b": punctured, ", of.n - of.v)?;
+        return say(rt, out, a, b" bits left out of each frame");
     }
     if of.n < of.v {
-        let a = pair(out, at, b": repeated, ", of.v - of.n);
-        return say(out, a, b" further copies in each frame");
+        let a = pair(rt, out, at, b": repeated, ", of.v - of.n)?;
+        return say(rt, out, a, b" further copies in each frame");
     }
     if of.n == 0 {
-        return say(out, at, b": empty");
+        return say(rt, out, at, b": empty");
     }
-    say(out, at, b": neither punctured nor repeated")
+    say(rt, out, at, b": neither punctured nor repeated")
 }
 
 // A channel's numbers. The TTI in ms is F with a 0 behind it.
 fn say_channel(
+    rt: &impl Print,
     out: &mut [u8; ROOM],
     at: usize,
     trch: TrchNumber,
     of: ChannelAnswer,
     y: u64,
-) -> usize
+) -> io::Result<usize>
     requires { y ≤ 1000 }
 {
-    let a = open_cell(out, at, 10, y);
-    let b = say_cell(out, a, channel_look(trch));
-    let c = close_cell(out, b, 10, y);
-    let d = pair(out, c, b"TrCH ", trch.number());
-    let e = pair(out, d, b": TTI ", of.f);
-    let f = pair(out, e, b"0 ms, E ", of.e);
-    let g = pair(out, f, b", N ", of.n);
-    let h = pair(out, g, b", V ", of.v);
-    let i = say_matching(out, h, of);
-    close_text(out, i)
+    let a = open_cell(rt, out, at, 10, y)?;
+    let b = say_cell(rt, out, a, channel_look(trch))?;
+    let c = close_cell(rt, out, b, 10, y)?;
+    let d = pair(rt, out, c, b"TrCH ", trch.number())?;
+    let e = pair(rt, out, d, b": TTI ", of.f)?;
+    let f = pair(rt, out, e, b"0 ms, E ", of.e)?;
+    let g = pair(rt, out, f, b", N ", of.n)?;
+    let h = pair(rt, out, g, b", V ", of.v)?;
+    let i = say_matching(rt, out, h, of)?;
+    close_text(rt, out, i)
 }
 
 // A line for each channel; those past I are not there.
-pub fn say_channels(out: &mut [u8; ROOM], at: usize, sheet: &[u8]) -> usize {
+pub fn say_channels(
+    rt: &impl Print,
+    out: &mut [u8; ROOM],
+    at: usize,
+    sheet: &[u8],
+) -> io::Result<usize> {
     let mut k = at;
     let mut y = FIRST;
     let mut i: usize = 0;
@@ -130,10 +155,10 @@ pub fn say_channels(out: &mut [u8; ROOM], at: usize, sheet: &[u8]) -> usize {
         let trch = TrchNumber::at(i);
         let of = channel(sheet, trch);
         if of.number == 0 {
-            k = say_channel(out, k, trch, of, y);
+            k = say_channel(rt, out, k, trch, of, y)?;
         }
         y += LINE;
         i += 1;
     }
-    k
+    Ok(k)
 }

@@ -5,6 +5,7 @@ use crate::saying::{say, say_number, say_refused};
 use counters::{FrameNumber, TrchNumber};
 use sheet::count;
 use sheet::counts::CHANNELS;
+use std::io;
 use ummervia::{build, finish, sheet_read, take_back};
 
 // The most values of a frame or of a channel that the tour has.
@@ -46,24 +47,27 @@ fn hear(frame: &[u8], silence: Silence, heard: &mut [f32])
 
 // A frame is heard and taken back.
 fn take(
+    rt: &impl Print,
     sheet: &[u8],
     number: FrameNumber,
     frame: &[u8],
     silence: Silence,
     heard: &mut [f32],
     joined: &mut [f32],
-)
+) -> io::Result<()>
     requires { length frame.now ≡ length heard.old }
 {
     hear(frame, silence, heard);
     let taken = take_back(sheet, number, heard, joined);
     if taken.number != 0 {
-        say_refused(taken.number);
+        say_refused(rt, taken.number)?;
     }
+    Ok(())
 }
 
 // One frame is built, sent, heard and taken back. The room lent has to hold its values.
 fn send(
+    rt: &impl Print,
     sheet: &[u8],
     number: FrameNumber,
     contents: &[u8],
@@ -71,12 +75,13 @@ fn send(
     frame: &mut [u8],
     room: &mut [f32],
     joined: &mut [f32],
-) {
+) -> io::Result<()> {
     build(sheet, number, contents, frame);
     let n = frame.len();
     if n <= room.len() {
-        take(sheet, number, frame, silence, &mut room[..n], joined);
+        take(rt, sheet, number, frame, silence, &mut room[..n], joined)?;
     }
+    Ok(())
 }
 
 // The number of copies that a value above 0 is the sum of; no bit of the tour has more than 9.
@@ -93,50 +98,62 @@ fn copies(value: f32) -> u64 {
     n
 }
 
-fn say_value(value: f32) {
+fn say_value(rt: &impl Print, value: f32) -> io::Result<()> {
     if value > 0.0 {
-        say(b" +");
-        say_number(copies(value));
-        return;
+        say(rt, b" +")?;
+        return say_number(rt, copies(value));
     }
     if value < 0.0 {
-        say(b" -");
-        say_number(copies(-value));
-        return;
+        say(rt, b" -")?;
+        return say_number(rt, copies(-value));
     }
-    say(b" 0");
+    say(rt, b" 0")
 }
 
-fn say_values(values: &[f32]) {
+fn say_values(rt: &impl Print, values: &[f32]) -> io::Result<()> {
     let mut i: usize = 0;
     while i < values.len() {
-        say_value(values[i]);
+        say_value(rt, values[i])?;
         i += 1;
     }
+    Ok(())
 }
 
 // One channel, finished.
-fn say_finished(sheet: &[u8], trch: TrchNumber, joined: &[f32], coded: &mut [f32]) {
+fn say_finished(
+    rt: &impl Print,
+    sheet: &[u8],
+    trch: TrchNumber,
+    joined: &[f32],
+    coded: &mut [f32],
+) -> io::Result<()> {
     let finished = finish(sheet, trch, joined, coded);
     if finished.number != 0 {
-        say_refused(finished.number);
-        return;
+        return say_refused(rt, finished.number);
     }
-    say_number(trch.number());
-    say(b":");
-    say_values(coded);
-    say(b"\n");
+    say_number(rt, trch.number())?;
+    say(rt, b":")?;
+    say_values(rt, coded)?;
+    say(rt, b"\n")
 }
 
 // The same in the first n places of the room.
-fn say_channel(sheet: &[u8], trch: TrchNumber, joined: &[f32], room: &mut [f32], n: usize) {
+fn say_channel(
+    rt: &impl Print,
+    sheet: &[u8],
+    trch: TrchNumber,
+    joined: &[f32],
+    room: &mut [f32],
+    n: usize,
+) -> io::Result<()> {
     if n <= room.len() {
-        say_finished(sheet, trch, joined, &mut room[..n]);
+        say_finished(rt, sheet, trch, joined, &mut room[..n])?;
     }
+    Ok(())
 }
 
 // A line for each channel. The room lent has to hold the longest; channels past I have no bits.
-fn say_home(sheet: &[u8], joined: &[f32], room: &mut [f32]) {
+fn say_home(rt: &impl Print, sheet: &[u8], joined: &[f32], room: &mut [f32]) -> io::Result<()> {
     let read = sheet_read(sheet);
     let fields = read.sheet;
     let e = fields.e;
@@ -144,14 +161,16 @@ fn say_home(sheet: &[u8], joined: &[f32], room: &mut [f32]) {
     while i < CHANNELS {
         let n = count(e[i]);
         if n > 0 {
-            say_channel(sheet, TrchNumber::at(i), joined, room, n);
+            say_channel(rt, sheet, TrchNumber::at(i), joined, room, n)?;
         }
         i += 1;
     }
+    Ok(())
 }
 
 // The frames from `first` on are sent and heard whole, then the last one, with the silence; and what came home is said.
 pub fn come_home(
+    rt: &impl Print,
     sheet: &[u8],
     first: u32,
     last: FrameNumber,
@@ -159,12 +178,13 @@ pub fn come_home(
     silence: Silence,
     frame: &mut [u8],
     joined: &mut [f32],
-) {
+) -> io::Result<()> {
     let mut room = [0.0f32; ROOM];
     let none = Silence { from: 0, to: 0 };
     let mut n = first;
     while last.is_over(n) {
         send(
+            rt,
             sheet,
             FrameNumber(n),
             contents,
@@ -172,9 +192,9 @@ pub fn come_home(
             frame,
             &mut room,
             joined,
-        );
+        )?;
         n += 1;
     }
-    send(sheet, last, contents, silence, frame, &mut room, joined);
-    say_home(sheet, joined, &mut room);
+    send(rt, sheet, last, contents, silence, frame, &mut room, joined)?;
+    say_home(rt, sheet, joined, &mut room)
 }
