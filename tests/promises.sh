@@ -48,7 +48,7 @@ for paper in docs/PROMISES.md docs/READING.md; do
 done
 
 cited docs/PROMISES.md | sed -n 's/^edit //p' | sort -u >"$room/tried"
-find crates -path '*/must-fail/*.edit' | sed 's|^crates/||; s|/must-fail/|/|; s|\.edit$||' | sort >"$room/edits"
+find crates -path '*/must-fail/*.edit' -not -path '*/out/*' | sed 's|^crates/||; s|/must-fail/|/|; s|\.edit$||' | sort >"$room/edits"
 for edit in $(comm -13 "$room/tried" "$room/edits"); do wrong "docs/PROMISES.md does not cite $edit"; done
 
 for call in $(sed -n 's/^uint32_t \(umv_[a-z_]*\)(.*/\1/p' include/ummervia.h); do
