@@ -5,7 +5,7 @@ SHELL := /bin/bash
 .SHELLFLAGS := -eu -o pipefail -c
 .PHONY: help run test ctest soak bench stack map figures setup clean
 .DEFAULT_GOAL := help
-.NOTPARALLEL: # rt works with all processors by itself, and rt ci removes target/
+.NOTPARALLEL: # rt works with all processors by itself
 
 # Outside vectors, bigger than the repository's own, of the calls and of the lister; where a file is not there it is passed over.
 VECTORS ?= ../shared/vectors/after-C-13.txt
@@ -36,26 +36,21 @@ endif
 
 CFLAGS := -static -O2 -std=c11 -Wall -Wextra -Werror -Iinclude
 ARCHIVE := target/staticlib/libummervia.a
+TOUR := target/bin/tour
 LISTER := target/bin/lister
 PICTURE := target/bin/picture
 REFERENCE := $(wildcard tests/reference*) tests/implementation.h
-SOURCES := crates.txt $(shell find crates -type f)
+SOURCE_FILES := crates.txt crates -type f -not -path '*/out/*'
+SOURCES := $(shell find $(SOURCE_FILES))
 
 help:
 	@head -n 2 Makefile
 
-run:
-	rt check tour
-	@$(RUN) target/bin/tour
+run: $(TOUR)
+	@$(RUN) $(TOUR)
 
-# The log is kept outside target/ while rt ci runs, which removes that; shown is how far it is. The line with the verdict comes last, if all passed.
-test: setup
-	@log=$$(mktemp); status=0; \
-	rt ci 2>&1 | tee $$log | tests/progress.sh || status=$$?; \
-	install -D -m 644 $$log target/ci.log; rm $$log; exit $$status
-	@echo 'all of it is in target/ci.log; now the archive and the C tests'
-	@$(MAKE) --no-print-directory ctest
-	@tail -n 1 target/ci.log | grep -Ex '[0-9]+ passed, 0 failed'
+test:
+	@.ci/run
 
 ctest: target/c/calls target/c/values target/c/vectors target/c/loop target/c/random target/c/home target/c/thinned target/c/nan \
 	target/c/stack target/c/picture target/c/tour target/c/sizes $(LISTER) $(PICTURE)
@@ -182,14 +177,16 @@ target/c/calls: tests/refusals.c tests/sheets.c tests/sheets.h
 target/c/calls target/c/values target/c/loop target/c/home target/c/thinned target/c/nan: tests/check.c tests/check.h
 target/c/calls target/c/values target/c/loop target/c/random target/c/thinned: tests/fields.c tests/fields.h
 
+# rt names the archive after its crate.
 $(ARCHIVE): $(SOURCES)
-	rt staticlib ummervia
+	cd crates/ummervia_c && rt lib
+	install -D -m 644 crates/ummervia_c/out/libummervia_c.a $@
 
-$(LISTER): $(SOURCES)
-	rt check lister
-
-$(PICTURE): $(SOURCES)
-	rt check picture
+# A program stays where rt ci or rt run made it last, in out/; where it is older than a source rt run makes it, and runs it as rt ci does.
+$(TOUR) $(LISTER) $(PICTURE): target/bin/%: $(SOURCES)
+	@made=crates/$*/out/$*; [ -x $$made ] && [ -z "$$(find $(SOURCE_FILES) -newer $$made)" ] || { cd crates/$* && echo "rt run, of $*" && \
+	rt run -- $$(cat args 2> /dev/null || true) < $$(ls stdin 2> /dev/null || echo /dev/null) > /dev/null; }
+	install -D -m 755 crates/$*/out/$* $@
 
 clean:
-	rm -rf target
+	rm -rf target crates/*/out

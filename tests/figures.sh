@@ -12,13 +12,13 @@ if (($#)); then
 fi
 
 # Lines of the folders of that name in every crate.
-lines() { find crates -path "crates/*/$1/*" -type f \( -name '*.rt' -o -name '*.antt' \) -exec cat {} + | grep -Evc '^[[:space:]]*($|//|--)'; }
+lines() { find crates -path "crates/*/$1/*" -not -path '*/out/*' -type f \( -name '*.rt' -o -name '*.antt' \) -exec cat {} + | grep -Evc '^[[:space:]]*($|//|--)'; }
 
 # With a comma between thousands.
 set_apart() { sed -E ':a; s/([0-9])([0-9]{3})($|,)/\1,\2\3/; ta' <<<"$1"; }
 
 row="|"
-for count in "$(lines specs)" "$(lines src)" "$(lines proofs)" "$(grep -c '^[^#]*:' crates.txt)" "$(find crates -path '*/must-fail/*.edit' | wc -l)"; do
+for count in "$(lines specs)" "$(lines src)" "$(lines proofs)" "$(grep -c '^[^#]*:' crates.txt)" "$(find crates -path 'crates/*/must-fail/*.edit' -not -path '*/out/*' | wc -l)"; do
     row+=" $(set_apart "$count") |"
 done
 echo "$row $(sed -n 's/^The gate .*: \([0-9,]*\) s\.$/\1/p' docs/CHECK-TIMES.md) |"

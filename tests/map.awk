@@ -9,7 +9,7 @@ function plain(text) { gsub(/&/, "\\&amp;", text); gsub(/</, "\\&lt;", text); re
 /^## / { title[++groups] = substr($0, 4); purpose = ""; next }
 /^#/ { purpose = substr($0, 3); next }
 NF {
-    name = $1; sub(/:$/, "", name)
+    name = $1; sub(/:$/, "", name); sub(/ staticlib:/, ":")
     if (!groups) fail(name " is in no group")
     if (purpose == "") fail("no line above " name " says what it is for")
     if (length(purpose) > 64) fail("what is said of " name " has more than 64 letters")

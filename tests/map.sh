@@ -6,8 +6,8 @@ cd "$(dirname "$0")/.."
 bad=0
 for crate in crates/*/; do
     crate=$(basename "$crate")
-    grep -q "^$crate:" crates.txt || { bad=1 && echo "map: crates/$crate is not in crates.txt"; }
+    grep -Eq "^$crate( staticlib)?:" crates.txt || { bad=1 && echo "map: crates/$crate is not in crates.txt"; }
 done
 awk -f tests/map.awk crates.txt | cmp - docs/map.svg || { bad=1 && echo 'map: docs/map.svg is not what crates.txt gives: make map'; }
-echo "map: $(grep -c '^[a-z_]*:' crates.txt) crates in $(grep -c '^## ' crates.txt) groups"
+echo "map: $(grep -Ec '^[a-z_]+( staticlib)?:' crates.txt) crates in $(grep -c '^## ' crates.txt) groups"
 ((bad == 0))

@@ -3,8 +3,8 @@
 # under its file, and no other; its second list every definition that a theorem pins, with what only such definitions rest on; its third what
 # the theorems of the demands, of C-20 and of stored sheets say besides. No two files of specs/ may define one name.
 #
-# The set is derived so. It begins with the calls: what crates/ummervia/src/lib.rt passes on (`pub use`), the extern "C" functions of
-# that crate, and list_sheet. What a call rests on is what the words of its head name, from `fn` to the body; what a definition rests
+# The set is derived so. It begins with the calls: what crates/ummervia/src/lib.rt passes on (`pub use`), the functions umv_* of that crate,
+# which crate ummervia_c exports to C under the same heads (tests/promises.sh), and list_sheet. What a call rests on is what the words of its head name, from `fn` to the body; what a definition rests
 # on is what its words name. A word names what its own file defines, or what a `use` line of that file brings: definitions of specs/,
 # and structs, enums and constants of src/. What comes from crates that are not in this repository is the toolchain's. A definition that
 # the paper says is pinned is not looked into: in its place stand the statements of the theorems that pin it.
@@ -26,13 +26,13 @@ pins() {
 # Prints `path file name lines`, or `pinned ..` or `demands ..`, for each thing; MISSING for a name that a file brings and nobody defines, a
 # theorem that is not there, or a call with a `requires`.
 derive() {
-    find crates \( -path '*/src/*.rt' -o -path '*/specs/*.antt' -o -path 'crates/*/proofs/*.antt' -not -name Proof.antt \) | sort | PINS=$(pins) xargs awk '
+    find crates \( -path '*/src/*.rt' -o -path '*/specs/*.antt' -o -path 'crates/*/proofs/*.antt' -not -name Proof.antt -not -name Answers.antt -not -name Invariants.antt \) -not -path '*/out/*' | sort | PINS=$(pins) xargs awk '
     function source(crate, modules) { return "crates/" crate "/src/" (modules == "" ? "lib" : modules) ".rt" }
 
-    # use Rattle·crate.specs.Module.{a, b}; ..Module as M; ..specs.declared.module.Type.{..}, with or without .the-variants; ..proofs.Module.{..}
+    # use Rattle.crate.specs.Module.{a, b}; ..Module as M; ..specs.declared.module.Type.{..}, with or without .TheVariants; ..proofs.Module.{..}
     function bring_specs(text,    crate, path, words, n, i, type, kind) {
-        sub(/^.*Rattle·/, "", text)
-        crate = text; sub(/[.;].*/, "", crate); sub(/·.*/, "", crate)
+        sub(/^.*use Rattle[.]/, "", text)
+        crate = text; sub(/[.;].*/, "", crate)
         kind = text ~ /^[^.]*[.]proofs[.]/ ? "proofs" : "specs"
         path = text; sub("^[^.]*[.]" kind "[.]", "", path); words = path
         if (sub(/.* as /, "", words)) {
@@ -41,16 +41,16 @@ derive() {
             return
         }
         gsub(/.*\{|\}.*/, "", words); n = split(words, names, /[ ,]+/)
-        sub(/\.\{.*/, "", path); sub(/\.the-variants$/, "", path); gsub(/\./, "/", path)
+        sub(/\.\{.*/, "", path); sub(/\.TheVariants$/, "", path); gsub(/\./, "/", path)
         type = ""
         if (sub(/^declared\//, "", path)) { type = path; sub(/.*\//, "", type); if (!sub(/\/[^\/]*$/, "", path)) path = "" }
         for (i = 1; i <= n; i++) brought[FILENAME, names[i]] = \
             type != "" ? source(crate, path) " " type : "crates/" crate "/" kind "/" path ".antt " names[i]
     }
 
-    # use crate::module::NAME, use othercrate::module::NAME or use module::NAME: its file and its name
+    # crate::module::NAME, othercrate::module::NAME or module::NAME: its file and its name
     function used(text,    n, i, crate, modules) {
-        gsub(/.*use |;.*/, "", text); n = split(text, part, /::/)
+        n = split(text, part, /::/)
         split(FILENAME, at, "/"); crate = at[2]; i = 1
         if (part[1] == "crate") i = 2
         else if (!(source(crate, part[1]) in here)) { crate = part[1]; i = 2 }
@@ -62,11 +62,20 @@ derive() {
     FNR == 1 { item = ""; params = ""; antt = FILENAME ~ /antt$/; law = FILENAME ~ /\/proofs\//; split("", head); opening = -1 }
     antt { sub(/--.*/, "") }
     !antt { sub(/\/\/.*/, "") }
-    /use Rattle·/ { bring_specs($0); next }
+    !antt && (more != "" || /^(pub |ghost )?use /) {
+        more = more $0
+        if (more !~ /;/) next
+        $0 = more; more = ""
+    }
+    /^ *(ghost )?use Rattle[.]/ { bring_specs($0); next }
     !antt && /^(pub )?use / {
-        thing = used($0); split(thing, pair, " ")
-        if (pair[2] ~ /^[A-Z]/) brought[FILENAME, pair[2]] = thing
-        else if ($1 == "pub" && FILENAME == "crates/ummervia/src/lib.rt") calls[thing] = 1
+        path = $0; gsub(/^.*use |;.*/, "", path); base = path; n = 1; names[1] = ""
+        if (sub(/[{].*/, "", base)) { gsub(/.*[{]|[}].*/, "", path); n = split(path, names, /[ ,]+/) }
+        for (i = 1; i <= n; i++) if (base !~ /::$/ || names[i] != "") {
+            thing = used(base names[i]); split(thing, pair, " ")
+            if (pair[2] ~ /^[A-Z]/) brought[FILENAME, pair[2]] = thing
+            else if ($1 == "pub" && FILENAME == "crates/ummervia/src/lib.rt") calls[thing] = 1
+        }
     }
     /^(pub |ghost )?use / { next }
     # of a law its statement is read, with the parameters of the modules around it: from its signature to the line of its proof
@@ -87,7 +96,7 @@ derive() {
     !antt && /^pub (struct|enum|const|fn|extern) / {
         match($0, /(struct|enum|const|fn) [A-Za-z_0-9]+/); name = substr($0, RSTART, RLENGTH); sub(/.* /, "", name)
         item = FILENAME " " name
-        if (/extern "C"/ && FILENAME ~ /^crates\/ummervia\//) calls[item] = 1
+        if (/^pub fn umv_/ && FILENAME ~ /^crates\/ummervia\//) calls[item] = 1
     }
     !antt && /^[{]/ { item = "" }
     item != "" && NF { body[item] = body[item] " " $0; lines[item]++ }
@@ -115,6 +124,8 @@ derive() {
                 if ((pair[1] " " word[i]) in lines) reach(pair[1] " " word[i])
                 else if ((pair[1], word[i]) in brought) reach(brought[pair[1], word[i]])
                 else if (dot > 1 && (pair[1], h) in module) reach(module[pair[1], h] " " substr(word[i], dot + 1))
+                else if (dot > 1 && (pair[1] " " h) in lines) reach(pair[1] " " h)
+                else if (dot > 1 && (pair[1], h) in brought) reach(brought[pair[1], h])
             }
         }
     }

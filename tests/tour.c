@@ -1,6 +1,6 @@
 /*
  * tour: prints what the program crates/tour has to print, by the reference alone; it is linked without the library.
- * `make ctest` compares it with crates/tour/stdout, to which `rt check` holds the program. The words, the sheets, the
+ * `make ctest` compares it with crates/tour/stdout, to which `rt ci` holds the program. The words, the sheets, the
  * contents, the frame numbers and the silences are the tour's; every number that follows from them is calculated here.
  */
 #include <inttypes.h>

@@ -1,4 +1,4 @@
-// The calls as C has them: a slice is a pointer and a length, further answers are written through pointers, on a refusal as zeros.
+// The calls in the form in which C has them, which crate ummervia_c exports: further answers are written through references, on a refusal as zeros.
 ghost use Rattle.std.specs.Prelude.{◌≡◌};
 ghost use Rattle.looking.specs.Outcome.{outcome};
 ghost use Rattle.sheets.specs.Sheets.{read_into, answer_made, length_from, write_from};
@@ -15,8 +15,7 @@ use sending::{build, multiplex, spread};
 use sheets::flat::{FLAT, lay_sheet, take_sheet};
 use sheets::{sheet_length, sheet_read, sheet_write};
 
-#[unsafe(no_mangle)]
-pub extern "C" fn umv_sheet_read(bytes: &[u8], fields: &mut [u16], at: &mut u64) -> u32
+pub fn umv_sheet_read(bytes: &[u8], fields: &mut [u16], at: &mut u64) -> u32
     ensures { outcome result at.new fields.new ≡ read_into bytes.now fields.old }
 {
     *at = 0;
@@ -34,8 +33,7 @@ pub extern "C" fn umv_sheet_read(bytes: &[u8], fields: &mut [u16], at: &mut u64)
     0
 }
 
-#[unsafe(no_mangle)]
-pub extern "C" fn umv_sheet_length(fields: &[u16], at: &mut u64) -> u32
+pub fn umv_sheet_length(fields: &[u16], at: &mut u64) -> u32
     ensures { answer_made result at.new ≡ length_from fields.now }
 {
     *at = 0;
@@ -47,8 +45,7 @@ pub extern "C" fn umv_sheet_length(fields: &[u16], at: &mut u64) -> u32
     answer.number
 }
 
-#[unsafe(no_mangle)]
-pub extern "C" fn umv_sheet_write(fields: &[u16], bytes: &mut [u8], at: &mut u64) -> u32
+pub fn umv_sheet_write(fields: &[u16], bytes: &mut [u8], at: &mut u64) -> u32
     ensures { outcome result at.new bytes.new ≡ write_from fields.now bytes.old }
 {
     *at = 0;
@@ -60,8 +57,7 @@ pub extern "C" fn umv_sheet_write(fields: &[u16], bytes: &mut [u8], at: &mut u64
     answer.number
 }
 
-#[unsafe(no_mangle)]
-pub extern "C" fn umv_sizes(
+pub fn umv_sizes(
     bytes: &[u8],
     channels: &mut u64,
     slots: &mut u64,
@@ -80,8 +76,7 @@ pub extern "C" fn umv_sizes(
     answer.number
 }
 
-#[unsafe(no_mangle)]
-pub extern "C" fn umv_channel(
+pub fn umv_channel(
     bytes: &[u8],
     trch: u32,
     f: &mut u64,
@@ -99,8 +94,7 @@ pub extern "C" fn umv_channel(
     answer.number
 }
 
-#[unsafe(no_mangle)]
-pub extern "C" fn umv_build(
+pub fn umv_build(
     bytes: &[u8],
     frame_number: u32,
     contents: &[u8],
@@ -114,8 +108,7 @@ pub extern "C" fn umv_build(
     answer.number
 }
 
-#[unsafe(no_mangle)]
-pub extern "C" fn umv_multiplex(
+pub fn umv_multiplex(
     bytes: &[u8],
     frame_number: u32,
     contents: &[u8],
@@ -129,8 +122,7 @@ pub extern "C" fn umv_multiplex(
     answer.number
 }
 
-#[unsafe(no_mangle)]
-pub extern "C" fn umv_spread(
+pub fn umv_spread(
     bytes: &[u8],
     multiplexed: &[u8],
     frame: &mut [u8],
@@ -143,8 +135,7 @@ pub extern "C" fn umv_spread(
     answer.number
 }
 
-#[unsafe(no_mangle)]
-pub extern "C" fn umv_part(
+pub fn umv_part(
     bytes: &[u8],
     trch: u32,
     multiplexed_len: u64,
@@ -159,8 +150,7 @@ pub extern "C" fn umv_part(
     answer.number
 }
 
-#[unsafe(no_mangle)]
-pub extern "C" fn umv_name(
+pub fn umv_name(
     bytes: &[u8],
     frame_number: u32,
     subframe: u32,

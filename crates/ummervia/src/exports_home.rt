@@ -1,4 +1,4 @@
-// The calls that bring soft values home, as C has them: see exports.rt.
+// The calls that bring soft values home, in the form in which C has them: see exports.rt.
 ghost use Rattle.std.specs.Prelude.{◌≡◌};
 ghost use Rattle.looking.specs.Outcome.{outcome};
 ghost use Rattle.receiving.specs.Receiving.{gather_into, take_into, finish_into};
@@ -10,8 +10,7 @@ use receiving::finishing::finish;
 use receiving::listening::{heard, link};
 use receiving::{gather, take_back};
 
-#[unsafe(no_mangle)]
-pub extern "C" fn umv_gather(
+pub fn umv_gather(
     bytes: &[u8],
     frame: &[f32],
     multiplexed: &mut [f32],
@@ -24,8 +23,7 @@ pub extern "C" fn umv_gather(
     answer.number
 }
 
-#[unsafe(no_mangle)]
-pub extern "C" fn umv_take_back(
+pub fn umv_take_back(
     bytes: &[u8],
     frame_number: u32,
     frame: &[f32],
@@ -39,8 +37,7 @@ pub extern "C" fn umv_take_back(
     answer.number
 }
 
-#[unsafe(no_mangle)]
-pub extern "C" fn umv_finish(
+pub fn umv_finish(
     bytes: &[u8],
     trch: u32,
     joined: &[f32],
@@ -54,8 +51,7 @@ pub extern "C" fn umv_finish(
     answer.number
 }
 
-#[unsafe(no_mangle)]
-pub extern "C" fn umv_heard(
+pub fn umv_heard(
     bytes: &[u8],
     frame_number: u32,
     frame: &[f32],
@@ -93,8 +89,7 @@ pub extern "C" fn umv_heard(
     answer.number
 }
 
-#[unsafe(no_mangle)]
-pub extern "C" fn umv_link(
+pub fn umv_link(
     bytes: &[u8],
     frame_number: u32,
     frame: &[f32],
