@@ -2,7 +2,7 @@
 use mathlib.Core.Path.{◌≡◌, refl, sym, ap, ap₂, ◌∙◌, subst}
 use mathlib.Core.List.{List, ◌++◌}
 use Prim.Native.Nat.{ℕ, zero, suc, ◌+◌, ◌-◌, ◌*◌, ◌/◌, ◌%◌, ◌^◌, ◌≤◌, ◌<◌}
-use native.Mathlib.Nat.{mod-lt, zero-div, zero-mod, pow-suc, mod-one, div-one, add-zero, add_assoc, mod-eq_of_lt, add-suc, mul_assoc, one-mul}
+use native.Mathlib.Nat.{mod-lt, pow-suc, mod-one, div-one, add-zero, add_assoc, mod-eq_of_lt, add-suc, mul_assoc, one-mul}
 use native.Mathlib.Numerals.{add-one, one-add}
 use native.Mathlib.Omega.{arith}
 use native.Mathlib.Decide.{ℕ_discrete}
@@ -11,8 +11,8 @@ use lib.Seq.{ext_get_or, paste, length_paste_head, length-take-le, get_or-append
 use Rattle.laws.proofs.TableLaws.{table_at, table-length, table_same}
 use lib.Pow.{pow_mono, mod-pow-add, shr-shr, low}
 use lib.Arith.{digits_div, digits_mod, lt_of_le-ne}
-use lib.ListN.{length, get_or, drop, take, length-append, get_or-eq_default, get_or-append}
-use Rattle.bits.specs.Bits.{bit_at, val, digit, field, packed, bit_of, Two}
+use lib.ListN.{length, get_or, drop, take, length-append, get_or-append}
+use Rattle.bits.specs.Bits.{bit_at, val, digit, field, packed, Two}
 
 pub bit-lt : (s : List ℕ) (i : ℕ) → bit_at s i < 2
 unfolding bit_at

@@ -1,7 +1,7 @@
 -- S6, first half: two places of a frame that have one name are one place.
 use mathlib.Core.Path.{◌≡◌, sym, ap, ◌∙◌}
 use mathlib.Core.Bool.{Bool, true, false}
-use Prim.Native.Nat.{ℕ, ◌+◌, ◌*◌, ◌-◌, ◌%◌, ◌≤◌, ◌<◌}
+use Prim.Native.Nat.{ℕ, ◌+◌, ◌*◌, ◌-◌, ◌≤◌, ◌<◌}
 use native.Mathlib.Omega.{arith}
 use lib.Dec.{eqb}
 use Rattle.laws.proofs.SumLaws.{parts_apart}
@@ -10,7 +10,6 @@ use Rattle.sheet.specs.Fields.{tti_of, phchs_of, capacity_of}
 use Rattle.sheet.specs.Sizes.{frames_of, size_of, slot_capacity, subframes_of, capacity_all}
 use Rattle.sheet.specs.Range.{Accepted}
 use Rattle.sheet.specs.declared.Sheet.{Sheet}
-use Rattle.orders.specs.Orders.{column_at}
 use Rattle.orders.proofs.OrderLaws.{frames_bounds}
 use Rattle.matching.specs.Shares.{cut_of, share_of, change_of, channel_of}
 use Rattle.pattern.specs.Closed.{sent_before, source_of, copy_of}

@@ -1,10 +1,9 @@
 -- Every index of the multiplexed frame, and every index of the frame, is a place's.
-use mathlib.Core.Path.{◌≡◌, sym, ap, ◌∙◌}
+use mathlib.Core.Path.{◌≡◌, ap, ◌∙◌}
 use mathlib.Core.Bool.{Bool, true, false}
 use Prim.Native.Nat.{ℕ, suc, ◌+◌, ◌*◌, ◌-◌, ◌≤◌, ◌<◌}
 use native.Mathlib.Omega.{arith}
 use lib.Dec.{eqb}
-use Rattle.laws.specs.Sums.{sum_to}
 use Rattle.laws.proofs.FallLaws.{digits, falls, sum-times, in_row}
 use Rattle.sheet.specs.Fields.{phchs_of, capacity_of}
 use Rattle.sheet.specs.Sizes.{slot_capacity, subframes_of, capacity_all}

@@ -2,16 +2,13 @@
 use Prim.Native.Nat.{ℕ, zero, suc, ◌+◌, ◌*◌, ◌-◌, ◌/◌, ◌%◌, ◌<◌, ◌≤◌}
 use mathlib.Core.Path.{◌≡◌, refl, sym, ◌∙◌, ap}
 use mathlib.Core.Bool.{Bool, true, false, not, cond, ◌&&◌}
-use mathlib.Core.List.{List}
-use lib.ListN.{get_or}
 use native.Mathlib.Nat.{mul-zero, zero-mul, mul_comm, mul_assoc, mul-add, add-mul, mul-add-div_right, zero-div, div-eq_of_lt, add-div_right, mod-lt, div-add-mod', mul-le-mul_left, div-le_of_le-mul, div-eq_of_lt-le, le_refl, le_trans, lt_of_not-le, mul-sub, one-mul, le-mul_of_pos_right, le-div_iff_mul-le, mul-le-mul}
 use native.Mathlib.Omega.{arith}
 use borrow.Author.Tests.{ltb-true, ltb-false, lt-ltb, le-leb, lt-leb, ne_eqb}
 use lib.Dec.{ltb, leb, eqb}
-use lib.IntN.{ℤ, pos, neg_ℤ, nat_abs, sub_ℕ, ◌+ℤ◌, ◌*ℤ◌}
+use lib.IntN.{pos, neg_ℤ, nat_abs, sub_ℕ, ◌+ℤ◌, ◌*ℤ◌}
 use Rattle.offset.specs.Ints.{floor_div, floor_over, ceil_over, mod_over}
 use Rattle.sheet.specs.Counts.{most_frames}
-use Rattle.matching.specs.Signed.{signed_by}
 use Rattle.offset.specs.Offset.{remainder_of, q_of, euclid, gcd, added_of, q_f, y_of}
 
 -- signed numbers that are not above 0

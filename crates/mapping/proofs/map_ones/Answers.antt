@@ -21,6 +21,7 @@ sized c =
 module _ (c : After-line_along-l) where
   along : Along c.args.caps.now 0 (part_from c.args.at (length c.args.frame.now) (second_interleaved c.args.bits.now)) c.loop-m.m c.stretch_from-r.result c.loop-m.m.x c.loop-m.m.k c.loop-m.frame
   along = along_starts c.loop-m.invariant.0 c.stretch_from-r.ensures
+
   inside : Within (length c.args.frame.now) (length c.loop-m.frame) (line_along c.loop-m.m c.stretch_from-r.result)
   inside = stretch_within along (sized (goal.at-After-line_along-l c).Start) (omega (arith, c.requires.2.inside, c.requires.2.most)) c.requires.1
 

@@ -19,8 +19,8 @@ loop-q-preserved c =
     let U = at a.caps.now in (
       omega arith,
       elim c.if-had-v.branch [
-        then-had-v w ↦ rw (w.stride-is, w.end-is, w.until-end.ensures, t, v) (reach_more U a.p a.x l.q l.stride l.end l.invariant.1 (omega (arith, w.if-had-v.true)))
-      | else-had-v w ↦ rw (w.stride-is, w.end-is) (reach_full U a.p a.x l.q l.stride l.end l.invariant.1 (omega (arith, w.if-had-v.false)))
+        | then-had-v w ↦ rw (w.stride-is, w.end-is, w.until-end.ensures, t, v) (reach_more U a.p a.x l.q l.stride l.end l.invariant.1 (omega (arith, w.if-had-v.true)))
+        | else-had-v w ↦ rw (w.stride-is, w.end-is) (reach_full U a.p a.x l.q l.stride l.end l.invariant.1 (omega (arith, w.if-had-v.false)))
       ],
     )
 

@@ -20,6 +20,7 @@ fits c = omega (arith, second-length c.args.values.now, c.requires.2.inside)
 module _ (c : After-line_along-l) where
   along : Along c.args.caps.now nan (part_from c.args.at (length c.args.frame.now) (second_interleaved c.loop-m.values)) c.loop-m.m c.stretch_from-r.result c.loop-m.m.x c.loop-m.m.k c.args.frame.now
   along = along_starts c.loop-m.invariant.0 c.stretch_from-r.ensures
+
   inside : Within (length c.args.frame.now) (length c.args.frame.now) (line_along c.loop-m.m c.stretch_from-r.result)
   inside =
       stretch_within along (part_length (second_interleaved c.loop-m.values) c.args.at _ c.loop-m.invariant.1.fits)
@@ -29,12 +30,11 @@ pub start-m-requires : goal.start-m-requires
 start-m-requires c = let p = c.requires in omega (arith, p.0.bits, p.1, p.2.inside, p.2.most)
 
 pub loop-m-init : goal.loop-m-init
-loop-m-init c =
-    (
-      standing_starts c.start-m.ensures (record { bits = part_length (second_interleaved c.args.values.now) c.args.at _ (fits (goal.at.loop-m-init c).Start) ∙ c.requires.0.bits; room = c.requires.0.room }),
-      over_starts c.args.at (length c.args.frame.now) (second_interleaved c.args.values.now) (fits (goal.at.loop-m-init c).Start),
-      refl,
-    )
+loop-m-init c = (
+  standing_starts c.start-m.ensures (record { bits = part_length (second_interleaved c.args.values.now) c.args.at _ (fits (goal.at.loop-m-init c).Start) ∙ c.requires.0.bits; room = c.requires.0.room }),
+  over_starts c.args.at (length c.args.frame.now) (second_interleaved c.args.values.now) (fits (goal.at.loop-m-init c).Start),
+  refl,
+)
 
 pub stretch_from-r-requires : goal.stretch_from-r-requires
 stretch_from-r-requires c = (c.loop-m.invariant.0.mark, omega arith)

@@ -12,9 +12,11 @@ module _ (c : At-loop-i) where
   -- of the opened sheet's own Z
   under : Under c.args.opened.cuts c.args.x c.loop-i.i
   under = subst (λ (z : List ℕ). Under z c.args.x c.loop-i.i) c.requires.1 c.loop-i.invariant
+
   -- a channel that exists
   inside : c.loop-i.i < c.args.opened.fields.channels
   inside = under_inside c.args.opened c.requires.0 c.args.x c.requires.2 c.loop-i.i under
+
   few : c.loop-i.i < most_channels
   few = omega (arith, inside, c.requires.0.accepted.ranged.few_channels)
 
@@ -40,9 +42,8 @@ pub loop-i-preserved : goal.loop-i-preserved
 loop-i-preserved c = under_more _ _ _ c.loop-i.invariant (omega (arith, c.wide.ensures.0))
 
 pub returns : goal.returns
-returns c =
-    (
-      under_ends c.args.opened c.requires.0 c.args.x c.requires.2 c.loop-i.i (under (goal.at.returns c).At-loop-i)
-          (omega (arith, c.wide.ensures.0, ap (λ (z : List ℕ). get_or z (c.loop-i.i + 1) 0) c.requires.1)),
-      inside (goal.at.returns c).At-loop-i,
-    )
+returns c = (
+  under_ends c.args.opened c.requires.0 c.args.x c.requires.2 c.loop-i.i (under (goal.at.returns c).At-loop-i)
+      (omega (arith, c.wide.ensures.0, ap (λ (z : List ℕ). get_or z (c.loop-i.i + 1) 0) c.requires.1)),
+  inside (goal.at.returns c).At-loop-i,
+)

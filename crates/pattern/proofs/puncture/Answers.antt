@@ -43,8 +43,8 @@ turned c =
     let l = c.loop-j in
     let w = c.requires.1 in
     elim c.if-q-e.branch [
-      then-q-e w' ↦ rw (w'.dst-is, w'.e-is, w'.k-is) (omega arith, sending_keep l.invariant.2 w (omega arith) (omega arith))
-    | else-q-e w' ↦ rw (w'.dst-is, w'.e-is, w'.k-is) (omega arith, sending_drop l.invariant.2 w (omega arith) (omega arith) (omega arith))
+      | then-q-e w' ↦ rw (w'.dst-is, w'.e-is, w'.k-is) (omega arith, sending_keep l.invariant.2 w (omega arith) (omega arith))
+      | else-q-e w' ↦ rw (w'.dst-is, w'.e-is, w'.k-is) (omega arith, sending_drop l.invariant.2 w (omega arith) (omega arith) (omega arith))
     ]
 
 pub send_run-t-requires : goal.send_run-t-requires

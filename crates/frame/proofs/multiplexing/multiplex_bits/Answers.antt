@@ -26,16 +26,22 @@ use Rattle.frame.proofs.multiplexing.multiplex_bits.Goals as goal
 module _ (c : After-count) where
   abbrev o : Opened
   o = c.args.opened
+
   abbrev i : ℕ
   i = c.loop-i.i
+
   opens : Opens o
   opens = c.requires.0
+
   inside : i < o.fields.channels
   inside = omega arith
+
   end : c.loop-i.from + c.count.result ≤ encoded_all o.fields
   end = content_within o opens i inside c.loop-i.invariant.1 c.count.ensures.0
+
   up : get_or o.cuts i 0 ≤ get_or o.cuts (i + 1) 0
   up = cut_rises o opens i inside
+
   last : get_or o.cuts (i + 1) 0 ≤ length c.loop-i.out
   last = omega (arith, cut_within o opens i inside)
 
@@ -66,8 +72,7 @@ slice_bounds-send-end-in-loop-i c = last (goal.at.slice_bounds-send-end-in-loop-
 
 pub send-requires : goal.send-requires
 send-requires c =
-    let l = c.loop-i in
-    (
+    let l = c.loop-i in (
       (opens (goal.at.send-requires c).After-count).accepted,
       inside (goal.at.send-requires c).After-count,
       c.wide-size.ensures.0 ∙ size_is (o (goal.at.send-requires c).After-count) (opens (goal.at.send-requires c).After-count) (i (goal.at.send-requires c).After-count) (inside (goal.at.send-requires c).After-count),

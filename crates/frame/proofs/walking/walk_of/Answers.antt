@@ -15,18 +15,18 @@ use Rattle.frame.proofs.walking.walk_of.Goals as goal
 module _ (c : After-difference-d) where
   change : signed_by c.difference-d.result.less c.difference-d.result.size ≡ change_of c.args.fields c.args.i
   change = c.difference-d.ensures.0 ∙ ap₂ (λ (x y : ℕ). pos x -ℤ pos y) c.requires.3 c.requires.2
+
   few : c.difference-d.result.size ≤ most_bits
   few =
       c.difference-d.ensures.1 most_bits (omega (arith, c.requires.3, shares_most c.args.fields c.requires.0 c.args.i c.requires.1))
       (omega (arith, c.requires.2, sizes_most c.args.fields c.requires.0 c.args.i c.requires.1))
 
 pub start_of-e-requires : goal.start_of-e-requires
-start_of-e-requires c =
-    (
-      omega (arith, c.requires.2, sizes_most c.args.fields c.requires.0 c.args.i c.requires.1),
-      few (goal.at.start_of-e-requires c).After-difference-d,
-      omega (arith, c.requires.4, c.requires.0.ranged.tti c.args.i c.requires.1),
-    )
+start_of-e-requires c = (
+  omega (arith, c.requires.2, sizes_most c.args.fields c.requires.0 c.args.i c.requires.1),
+  few (goal.at.start_of-e-requires c).After-difference-d,
+  omega (arith, c.requires.4, c.requires.0.ranged.tti c.args.i c.requires.1),
+)
 
 pub returns : goal.returns
 returns c =

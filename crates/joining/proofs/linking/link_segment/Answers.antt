@@ -2,7 +2,6 @@ use mathlib.Core.Path.{◌≡◌}
 use mathlib.Core.Bool.{true, false≢true}
 use mathlib.Core.Logic.{◌⊎◌, inl, inr, ⊎_elim}
 use native.Mathlib.Omega.{arith}
-
 use lib.ListN.{length}
 use Rattle.pattern.proofs.SegmentLaws.{stands}
 use Rattle.joining.proofs.OnceLaws.{alone, link_alone}

@@ -17,16 +17,21 @@ fits c = omega (arith, second-length c.args.values.now, c.requires.1.inside)
 module _ (c : After-line_of-l) where
   abbrev S : List Float
   S = second_interleaved c.loop-j.values
+
   sized : length (part_from c.args.at (length c.args.frame.now) S) ≡ length c.args.frame.now
   sized = part_length S c.args.at _ c.loop-j.invariant.1.fits
+
   inside : Within (length c.args.frame.now) (length c.args.frame.now) c.line_of-l.result
   inside =
       rw sized at (line-within c.pair_of-t.ensures.fit _ _ c.line_of-l.ensures c.loop-j.invariant.0)
+
   -- what it takes
   abbrev taken : List Float
   taken = copied nan (spot_on c.line_of-l.result) (bit_on c.line_of-l.result) c.args.frame.now c.line_of-l.result.count (part_from c.args.at (length c.args.frame.now) S)
+
   many : length taken ≡ length c.args.frame.now
   many = copied-length nan (spot_on c.line_of-l.result) (bit_on c.line_of-l.result) c.args.frame.now (part_from c.args.at (length c.args.frame.now) S) c.line_of-l.result.count ∙ sized
+
   over : copied nan (spot_on c.line_of-l.result) (index_on c.args.at c.line_of-l.result) c.args.frame.now c.line_of-l.result.count S
       ≡ put_mid c.args.at (length c.args.frame.now) S taken
   over = copied_over nan (spot_on c.line_of-l.result) (bit_on c.line_of-l.result) c.args.at _ c.args.frame.now S c.line_of-l.result.count c.loop-j.invariant.1.fits inside.given

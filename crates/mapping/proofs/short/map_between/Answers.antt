@@ -12,8 +12,10 @@ use Rattle.mapping.proofs.short.map_between.Goals as goal
 module _ (g : After-put_line) where
   abbrev bits : List ℕ
   bits = g.put_line.new.frame
+
   full : length bits ≡ length g.args.frame.now
   full = g.put_line.auto.frame ∙ length-take-le _ _ g.requires.2
+
   front : let n = length g.args.frame.now in take n (bits ++ drop n g.args.room.now) ≡ bits
   front = take_at bits _ _ full
 

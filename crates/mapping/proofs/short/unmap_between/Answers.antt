@@ -13,8 +13,10 @@ use Rattle.mapping.proofs.short.unmap_between.Goals as goal
 module _ (g : After-unmap_laid) where
   abbrev laid : List Float
   laid = g.unmap_laid.new.bits
+
   full : length laid ≡ length g.args.frame.now
   full = g.unmap_laid.auto.bits ∙ length-take-le _ _ g.requires.2
+
   front : let n = length g.args.frame.now in take n (laid ++ drop n g.args.room.now) ≡ laid
   front = take_at laid _ _ full
 

@@ -11,8 +11,10 @@ use Rattle.sheet.proofs.fields.read_fields.Goals as goal
 module _ (c : After-read_byte-second) where
   abbrev s : List ℕ
   s = c.args.s.now
+
   one : c.read_byte-first.result ≡ bits_at s 0 8
   one = c.read_byte-first.ensures.0
+
   two : c.read_byte-second.result ≡ bits_at s 8 8
   two = c.read_byte-second.ensures.0
 

@@ -15,6 +15,7 @@ use Rattle.sheet.proofs.fields.read_logs.Goals as goal
 module _ (s : List ℕ) (start i : ℕ) {at : ℕ} (e : at ≡ slot_from s start i) (u : uplink_in s ≡ 1) where
   first : bits_at s (at + codes_width) (log_width 1) ≡ code_log s start i 0
   first = ap (λ (x : ℕ). bits_at s x (log_width 1)) (omega arith) ∙ ap (λ (x : ℕ). bits_at s (slot_from s start i + slot_width x 0) (log_width x)) (sym u)
+
   second : bits_at s (at + codes_width + (log_width 1 + capacity_width)) (log_width 1) ≡ code_log s start i 1
   second = ap (λ (x : ℕ). bits_at s x (log_width 1)) (omega arith) ∙ ap (λ (x : ℕ). bits_at s (slot_from s start i + slot_width x 1) (log_width x)) (sym u)
 

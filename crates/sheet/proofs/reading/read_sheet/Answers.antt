@@ -16,13 +16,12 @@ pub beyond_uplink-beyond-requires : goal.beyond_uplink-beyond-requires
 beyond_uplink-beyond-requires c = ranged (goal.at.beyond_uplink-beyond-requires c).After-read_fields-sheet
 
 pub read_number-number-requires : goal.read_number-number-requires
-read_number-number-requires c =
-    (
-      c.read_fields-sheet.ensures,
-      ranged (goal.at.read_number-number-requires c).After-read_fields-sheet,
-      load_is c.read_fields-sheet.result _ _ c.count.ensures.0 c.whole_load-load.ensures.0,
-      c.beyond_uplink-beyond.ensures,
-    )
+read_number-number-requires c = (
+  c.read_fields-sheet.ensures,
+  ranged (goal.at.read_number-number-requires c).After-read_fields-sheet,
+  load_is c.read_fields-sheet.result _ _ c.count.ensures.0 c.whole_load-load.ensures.0,
+  c.beyond_uplink-beyond.ensures,
+)
 
 pub returns-then-number-eq0 : goal.returns-then-number-eq0
 returns-then-number-eq0 c = accepted c.args.bytes.now _ _ c.read_number-number.ensures c.if-number-eq0.true c.read_fields-sheet.ensures

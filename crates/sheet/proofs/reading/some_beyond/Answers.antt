@@ -1,6 +1,5 @@
 use native.Mathlib.Omega.{arith}
 use mathlib.Core.Path.{◌≡◌, refl, sym, ap, ◌∙◌}
-use mathlib.Core.Bool.{false}
 use lib.ListN.{get_or}
 use Rattle.laws.specs.Sums.{any_to}
 use Rattle.laws.proofs.SumLaws.{any_more, any_hit}

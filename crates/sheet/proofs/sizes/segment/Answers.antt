@@ -9,8 +9,7 @@ returns-then-e-eq0 c = (size_none _ _ c.if-e-eq0.true, omega arith)
 
 -- before the bound, so that a wrong N is what a check names first
 pub returns : goal.returns
-returns c =
-    (
+returns c = (
   size-some _ _ c.wide.ensures.0 c.frames-f.ensures.0 c.if-e-eq0.false,
   omega (arith, div-le_self (c.wide.result - 1) c.frames-f.result),
 )

@@ -2,7 +2,6 @@ use native.Mathlib.Omega.{arith}
 use mathlib.Core.Path.{◌≡◌, sym, ◌∙◌, subst}
 use Prim.Native.Nat.{ℕ, ◌+◌, ◌<◌}
 use Rattle.sheet.specs.Counts.{most_channels}
-use Rattle.sheet.specs.declared.Sheet.{Sheet}
 use Rattle.writing.specs.Written.{channel_bits, Holds}
 use Rattle.writing.proofs.HoldLaws.{room, to_tti, to_encoded, tti_put, encoded_put, ratio_put}
 use Rattle.writing.proofs.written.put_channels.Goals.{After-put_field, After-put_field-in-loop-i, After-put_field-in-loop-i-2, At-loop-i}

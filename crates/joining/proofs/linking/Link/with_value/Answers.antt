@@ -21,8 +21,8 @@ returns-then-self-a c =
     let no = c.if-self-before.false in
     let greatest : Link → Link = λ l. record { least = l.least; greatest = k; punctured = l.punctured } in
     elim c.if-a-self.branch [
-      then-a-self w ↦ ap greatest w.l-is ∙ later-value a.self a.before (clipped a.x) k true true no e w.if-a-self.true c.if-self-a.true
-    | else-a-self w ↦ ap greatest w.l-is ∙ later-value a.self a.before (clipped a.x) k false true no e w.if-a-self.false c.if-self-a.true
+      | then-a-self w ↦ ap greatest w.l-is ∙ later-value a.self a.before (clipped a.x) k true true no e w.if-a-self.true c.if-self-a.true
+      | else-a-self w ↦ ap greatest w.l-is ∙ later-value a.self a.before (clipped a.x) k false true no e w.if-a-self.false c.if-self-a.true
     ]
 
 pub returns-else-self-a : goal.returns-else-self-a
@@ -32,6 +32,6 @@ returns-else-self-a c =
     let e = c.cap-a.ensures ∙ ap capped c.magnitude.ensures ∙ magnitude_clip a.x in
     let no = c.if-self-before.false in
     elim c.if-a-self.branch [
-      then-a-self w ↦ w.l-is ∙ later-value a.self a.before (clipped a.x) k true false no e w.if-a-self.true c.if-self-a.false
-    | else-a-self w ↦ w.l-is ∙ later-value a.self a.before (clipped a.x) k false false no e w.if-a-self.false c.if-self-a.false
+      | then-a-self w ↦ w.l-is ∙ later-value a.self a.before (clipped a.x) k true false no e w.if-a-self.true c.if-self-a.false
+      | else-a-self w ↦ w.l-is ∙ later-value a.self a.before (clipped a.x) k false false no e w.if-a-self.false c.if-self-a.false
     ]
