@@ -27,7 +27,7 @@ cited() {
                     sub(/^crates\//, "", word); file = "crates/" word; print "file", file
                 } else if (word ~ /^(crates|docs|tests|include|examples)\/.*[.][a-z]+$/) { file = ""; print "file", word }
                 else if (word ~ /[.](antt|rt)$/) print "bare", word
-                else if (word ~ /^[a-z]+\/[a-z0-9_]+$/) print "edit", word
+                else if (word ~ /^[a-z_]+\/[a-z0-9_]+$/) print "edit", word
             }
         }
     }' "$1"

@@ -78,7 +78,8 @@ fn build_whole(contents: &[u8], opened: Opened, frame: FrameNumber, out: &mut [u
 }
 
 // Of a frame of more than MIDDLE places. With the rooms of all sizes in one function the smallest frame would touch the largest one's stack
-// (docs/SPEED.md).
+// (docs/SPEED.md), so it is not to be drawn into its caller.
+#[inline(never)]
 fn build_far(contents: &[u8], opened: Opened, frame: FrameNumber, out: &mut [u8])
     requires { Opens opened × (length contents.now ≡ encoded_all opened.fields) × (length out.old ≡ capacity_all opened.fields) }
     ensures { out.new ≡ bit_frame opened.fields frame.0 contents.now }
@@ -92,12 +93,10 @@ fn build_far(contents: &[u8], opened: Opened, frame: FrameNumber, out: &mut [u8]
     }
 }
 
-// The last two calls are of one function: the compiler draws in what is called from one place alone.
 pub fn build_bits(contents: &[u8], opened: Opened, frame: FrameNumber, out: &mut [u8])
     requires { Opens opened × (length contents.now ≡ encoded_all opened.fields) × (length out.old ≡ capacity_all opened.fields) }
     ensures { out.new ≡ bit_frame opened.fields frame.0 contents.now }
 {
-    let fields = opened.fields;
     let n = out.len();
     if n <= TINY {
         build_tiny(contents, opened, frame, out);
@@ -105,8 +104,6 @@ pub fn build_bits(contents: &[u8], opened: Opened, frame: FrameNumber, out: &mut
         build_small(contents, opened, frame, out);
     } else if n <= MIDDLE {
         build_middle(contents, opened, frame, out);
-    } else if fields.uplink == 0 {
-        build_far(contents, opened, frame, out);
     } else {
         build_far(contents, opened, frame, out);
     }
