@@ -6,9 +6,7 @@ use Rattle.sheet.specs.Sizes.{size_of, capacity_all}
 use Rattle.sheet.specs.declared.Sheet.{Sheet}
 use Rattle.joining.specs.Joining.{value_of, count_of}
 use Rattle.joining.specs.Range.{in_range, first_out}
-use Rattle.joining.specs.declared.Heard.{Heard}
 use Rattle.joining.specs.declared.Heard.TheVariants.{Nothing}
-use Rattle.joining.specs.declared.linking.Link.{Link}
 use Rattle.homing.specs.Home.{heard_at, link_in}
 use Rattle.homing.specs.Receiving.{no_link}
 use Rattle.looking.specs.Looking.{frame_lines, no_trch, look_lines, indexed}
