@@ -23,7 +23,7 @@ cited() {
                 word = substr(text, RSTART, RLENGTH); text = substr(text, RSTART + RLENGTH); sub(/[.]$/, "", word)
                 if (word ~ /^`[A-Za-z0-9_-]+`$/) { gsub(/`/, "", word); if (file != "") print "name", file, word; continue }
                 gsub(/`/, "", word)
-                if (word ~ /^(crates\/)?[a-z]+\/(src|specs|proofs)\/.*[.](antt|rt)$/) {
+                if (word ~ /^(crates\/)?[a-z_]+\/(src|specs|proofs)\/.*[.](antt|rt)$/) {
                     sub(/^crates\//, "", word); file = "crates/" word; print "file", file
                 } else if (word ~ /^(crates|docs|tests|include|examples)\/.*[.][a-z]+$/) { file = ""; print "file", word }
                 else if (word ~ /[.](antt|rt)$/) print "bare", word
