@@ -23,7 +23,7 @@ cited() {
                 word = substr(text, RSTART, RLENGTH); text = substr(text, RSTART + RLENGTH); sub(/[.]$/, "", word)
                 if (word ~ /^`[A-Za-z0-9_-]+`$/) { gsub(/`/, "", word); if (file != "") print "name", file, word; continue }
                 gsub(/`/, "", word)
-                if (word ~ /^(crates\/)?[a-z]+\/(src|specs|proofs)\/.*[.](antt|rt)$/) {
+                if (word ~ /^(crates\/)?[a-z_]+\/(src|specs|proofs)\/.*[.](antt|rt)$/) {
                     sub(/^crates\//, "", word); file = "crates/" word; print "file", file
                 } else if (word ~ /^(crates|docs|tests|include|examples)\/.*[.][a-z]+$/) { file = ""; print "file", word }
                 else if (word ~ /[.](antt|rt)$/) print "bare", word
@@ -55,9 +55,9 @@ for call in $(sed -n 's/^uint32_t \(umv_[a-z_]*\)(.*/\1/p' include/ummervia.h); 
     rows=$(awk -v "call=\`$call\`" '/^#/ { on = /^## / && index($0, call) } on && /^[|] (contract|unique|refusals|shut out) [|]/' docs/PROMISES.md | wc -l)
     ((rows == 4)) || wrong "docs/PROMISES.md has $rows rows of four for $call"
 done
-# FILE..: prints the heads of the functions umv_*, from the name to the body, each on a line; brought: `PATH NAME` of what their clauses may name.
+# FILE..: prints the heads of the functions umv_*, from the name to the body, each on a line, however they are laid out; brought: `PATH NAME` of what their clauses may name.
 heads() {
-    awk '/fn umv_[a-z_]*\(/ { sub(/.*fn /, ""); on = 1 } /^[{]/ && on { print head; on = 0; head = "" } on { head = head " " $0 }' "$@" | sort
+    awk '/fn umv_[a-z_]*\(/ { sub(/.*fn /, ""); on = 1 } /^[{]/ && on { gsub(/ +/, " ", head); gsub(/,? [)]/, ")", head); gsub(/[(] /, "(", head); print head; on = 0; head = "" } on { head = head " " $0 }' "$@" | sort
 }
 brought() {
     awk '/^ghost use / { n = split($0, word, /[ ,{};]+/); for (i = 4; i < n; i++) print word[3], word[i] }' "$@" | sort -u

@@ -122,12 +122,7 @@ pub fn umv_multiplex(
     answer.number
 }
 
-pub fn umv_spread(
-    bytes: &[u8],
-    multiplexed: &[u8],
-    frame: &mut [u8],
-    at: &mut u64,
-) -> u32
+pub fn umv_spread(bytes: &[u8], multiplexed: &[u8], frame: &mut [u8], at: &mut u64) -> u32
     ensures { outcome result at.new frame.new ≡ spread_into bytes.now multiplexed.now frame.old }
 {
     let answer = spread(bytes, multiplexed, frame);

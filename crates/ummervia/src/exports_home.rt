@@ -10,12 +10,7 @@ use receiving::finishing::finish;
 use receiving::listening::{heard, link};
 use receiving::{gather, take_back};
 
-pub fn umv_gather(
-    bytes: &[u8],
-    frame: &[f32],
-    multiplexed: &mut [f32],
-    at: &mut u64,
-) -> u32
+pub fn umv_gather(bytes: &[u8], frame: &[f32], multiplexed: &mut [f32], at: &mut u64) -> u32
     ensures { outcome result at.new multiplexed.new ≡ gather_into bytes.now frame.now multiplexed.old }
 {
     let answer = gather(bytes, frame, multiplexed);
@@ -37,13 +32,7 @@ pub fn umv_take_back(
     answer.number
 }
 
-pub fn umv_finish(
-    bytes: &[u8],
-    trch: u32,
-    joined: &[f32],
-    coded: &mut [f32],
-    at: &mut u64,
-) -> u32
+pub fn umv_finish(bytes: &[u8], trch: u32, joined: &[f32], coded: &mut [f32], at: &mut u64) -> u32
     ensures { outcome result at.new coded.new ≡ finish_into bytes.now trch joined.now coded.old }
 {
     let answer = finish(bytes, TrchNumber(trch), joined, coded);
