@@ -1,5 +1,5 @@
 -- The values of document 01 that are marked P: for each what the definitions give, and what the paper prints.
-use Rattle.std.specs.Prelude.{List, [], ◌∷◌, ℕ, suc, ◌+◌, ◌*◌, ◌-◌, ℤ, pos, negsuc, ◌-ℤ◌, get_or, take, drop, replicate}
+use Rattle.std.specs.Prelude.{List, [], ◌∷◌, ℕ, suc, ◌+◌, ◌*◌, ℤ, pos, negsuc, ◌-ℤ◌, get_or, take, drop, replicate}
 use Rattle.laws.specs.Tables.{table}
 use Rattle.sheet.specs.Sizes.{segment_in}
 use Rattle.matching.specs.Shares.{share_in}
