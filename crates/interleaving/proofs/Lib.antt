@@ -5,4 +5,5 @@ pub mod FinishLaws
 pub mod SecondLaws
 pub mod FinishWalk
 pub mod SecondWalk
+pub mod WholeLaws
 pub mod Example

@@ -2,3 +2,4 @@ pub mod Columns
 pub mod First
 pub mod Second
 pub mod Turns
+pub mod Whole

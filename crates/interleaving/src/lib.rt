@@ -7,6 +7,7 @@ ghost use Rattle.sheet.specs.Sizes.{frames_in};
 
 pub mod first;
 pub mod second;
+pub mod whole;
 
 // F of a TTI, as an index.
 fn frames(tti: usize) -> usize

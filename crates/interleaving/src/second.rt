@@ -7,7 +7,7 @@ ghost use Rattle.interleaving.specs.Second.{read_before, comes_from};
 ghost use Rattle.interleaving.specs.Turns.{Turned, Seated};
 
 // The column of turn t. The order is lent from a local, for the reason that `orders` gives.
-fn column_at(columns: &[u8; 30], t: usize) -> usize
+pub fn column_at(columns: &[u8; 30], t: usize) -> usize
     requires { (columns.now ≡ order) × (t < 30) }
     ensures { (result ≡ get_or order t 0) × (result < 30) }
 {

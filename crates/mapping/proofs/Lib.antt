@@ -11,3 +11,5 @@ pub mod LineLaws
 pub mod AlongLaws
 pub mod PairLaws
 pub mod SlotLaws
+pub mod AloneLaws
+pub mod HandLaws

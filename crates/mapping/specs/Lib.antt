@@ -3,3 +3,4 @@ pub mod Strides
 pub mod Runs
 pub mod Lines
 pub mod Pairs
+pub mod Rounds

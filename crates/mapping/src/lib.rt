@@ -15,10 +15,12 @@ ghost use borrow.Rule.Slice.PartMut.{put_mid};
 
 mod lines;
 mod pairs;
+mod rounds;
 mod short;
 
 use interleaving::second::begin_turns;
 use lines::{Line, put_line, take_line};
+use rounds::{is_threefold, map_threefold};
 use short::{FEW, SHORT};
 
 // How many bits PhCH 1 takes at its turn, and how many the others do.
@@ -290,6 +292,15 @@ pub fn map_slot(bits: &[u8], at: usize, caps: &[u16], runs: Runs, frame: &mut [u
     requires { Coded caps.now runs.first runs.other (length frame.old) (length frame.old) × (at + length frame.old ≤ length bits.now) × (length bits.now ≤ most_bits) }
     ensures { frame.new ≡ slot_of (in_runs runs.first runs.other) caps.now (part_from at (length frame.old) (second_interleaved bits.now)) frame.old }
 {
+    // Step 9 moves nothing where one PhCH has all that step 8 interleaves.
+    if caps.len() == 1 && frame.len() == bits.len() {
+        interleaving::whole::interleave(bits, frame);
+        return;
+    }
+    if frame.len() == bits.len() && is_threefold(caps) {
+        map_threefold(bits, caps, frame);
+        return;
+    }
     let begins = begin_turns(bits.len());
     let order = orders::columns();
     if runs.first + runs.other != 2 {
@@ -308,6 +319,10 @@ pub fn unmap_slot(frame: &[f32], caps: &[u16], runs: Runs, at: usize, values: &m
     requires { Coded caps.now runs.first runs.other (length frame.now) (length frame.now) × (at + length frame.now ≤ length values.old) × (length values.old ≤ most_bits) }
     ensures { second_interleaved values.new ≡ put_mid at (length frame.now) (second_interleaved values.old) (slot_undone (in_runs runs.first runs.other) caps.now nan frame.now) }
 {
+    if caps.len() == 1 && frame.len() == values.len() {
+        interleaving::whole::undo(frame, values);
+        return;
+    }
     let begins = begin_turns(values.len());
     let order = orders::columns();
     if runs.first + runs.other != 2 {

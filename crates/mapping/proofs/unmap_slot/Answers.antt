@@ -1,10 +1,20 @@
-use Rattle.std.proofs.Common.{ℕ, length, ap, ◌∙◌}
+use Rattle.std.proofs.Common.{ℕ, length, sym, ap, ◌∙◌, arith}
 use Rattle.interleaving.specs.Second.{second_interleaved}
 use borrow.Rule.Slice.PartMut.{put_mid}
 use lib.Ieee.{nan}
-use Rattle.mapping.specs.Mapping.{slot_undone}
+use Rattle.interleaving.proofs.SecondLaws.{second-length}
+use Rattle.mapping.specs.Mapping.{in_runs, slot_undone}
 use Rattle.mapping.proofs.RunLaws.{one-runs, coded_pair}
+use Rattle.mapping.proofs.AloneLaws.{alone_take}
 use Rattle.mapping.proofs.unmap_slot.Goals as goal
+
+pub returns-then-frame-values : goal.returns-then-frame-values
+returns-then-frame-values c =
+    let a = c.args in
+    let n = second-length a.values.now in
+    c.undo.ensures
+    ∙ alone_take nan (in_runs a.runs.first a.runs.other) a.caps.now (omega arith) (second_interleaved a.values.now) a.frame.now c.requires.0.slot.room a.at
+    (omega (arith, n, c.requires.1)) (c.if-frame-values.true ∙ sym n)
 
 pub unmap_pair-requires : goal.unmap_pair-requires
 unmap_pair-requires c =

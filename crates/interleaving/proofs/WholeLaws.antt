@@ -1,0 +1,215 @@
+-- The walk of step 8 over a whole list: down a column, and from column to column.
+use Rattle.std.proofs.Common.{◌≡◌, ℕ, suc, ◌+◌, ◌-◌, ◌*◌, ◌<◌, ◌≤◌, List, length, get_or, set, sym, refl, ap, ◌∙◌, zero-add, add-one, arith, ext_get_or}
+use Rattle.laws.specs.Sums.{sum_to}
+use Rattle.laws.specs.Written.{Written}
+use Rattle.laws.proofs.WrittenLaws.{write_none, write_one, write_on}
+use Rattle.sheet.specs.Counts.{most_bits}
+use Rattle.orders.specs.Orders.{order}
+use Rattle.orders.proofs.OrderLaws.{order-turn}
+use Rattle.interleaving.specs.Columns.{height}
+use Rattle.interleaving.specs.Second.{second_interleaved, read_before, comes_from}
+use Rattle.interleaving.specs.Whole.{four, Down, Agrees, ColumnPassed}
+use Rattle.interleaving.proofs.SecondLaws.{read_suc, read_all, read_within, source_row, second_at, second-length, second-set}
+
+-- ---- down a column
+
+module _ {K c k : ℕ} (d : Down K c k) (h : c < K) where
+  -- its first element, and what is left behind it
+  pub down-here : (k < K) × (comes_from K k ≡ c)
+  down-here =
+      let q : k + 0 ≡ k = omega arith in
+      (omega (arith, d.inside), ap (comes_from K) (sym q) ∙ d.each 0 (omega arith) ∙ omega arith)
+
+  pub down-next : Down K (c + 30) (k + 1)
+  down-next = record {
+    near = omega arith;
+    inside = omega (arith, d.inside);
+    most = d.most;
+    each = λ i l.
+        let q : k + (i + 1) ≡ k + 1 + i = omega arith in
+        ap (comes_from K) (sym q) ∙ d.each (i + 1) (omega arith) ∙ omega arith;
+  }
+
+-- the column of turn t, and the index behind it
+module _ (K t : ℕ) {c k : ℕ} (h : t < 30) (e : c ≡ get_or order t 0) (b : k ≡ read_before K t) where
+  pub turn_ends : k + height 30 K c ≡ read_before K (suc t)
+  turn_ends = omega (arith, b, ap (height 30 K) e, read_suc K t)
+
+  pub turn-down : K ≤ most_bits → Down K c k
+  turn-down m = record {
+    near = omega (arith, e, (order-turn t h).0);
+    inside = omega (arith, turn_ends, read_within K (suc t) h);
+    most = m;
+    each = λ i l. omega (arith, b, e, source_row K t (k + i) h (omega (arith, b)) (omega (arith, turn_ends)));
+  }
+
+-- before index k of those from `begin` on, which comes from j if the column goes on
+pub record Going {A : Type 0} (z : A) (K : ℕ) (ys old : List A) (c begin : ℕ) (list : List A) (k j : ℕ) : Type 0 where
+  pub down : Down K c begin
+  pub long : length old ≡ K
+  pub from : begin ≤ k
+  pub to : k ≤ begin + height 30 K c
+  pub next : j ≡ c + 30 * (k - begin)
+  pub copied : Agrees z ys old list begin (k - begin)
+
+module _ {A : Type 0} {z : A} {K : ℕ} {ys old : List A} {c begin : ℕ} where
+  pub going_starts : Down K c begin → length old ≡ K → Going z K ys old c begin old begin c
+  going_starts d e =
+      let q : begin - begin ≡ 0 = omega arith in
+      record { down = d; long = e; from = omega arith; to = omega arith; next = omega arith; copied = rw q (write_none z _ old begin) }
+
+  module _ {list : List A} {k j : ℕ} (g : Going z K ys old c begin list k j) where
+    pub going_long : length list ≡ K
+    going_long = g.copied.long ∙ g.long
+
+    -- nothing is far behind the end
+    pub going_near : (j ≤ K + 30) × (k ≤ K) × (K ≤ most_bits)
+    going_near = (omega (arith, g.next, g.from, g.to, g.down.near), omega (arith, g.to, g.down.inside), g.down.most)
+
+    -- what is left is a column too
+    left : k + height 30 K j ≡ begin + height 30 K c
+    left = omega (arith, g.next, g.from, g.to)
+
+    pub going_down : Down K j k
+    going_down =
+        record {
+          near = going_near.0;
+          inside = omega (arith, left, g.down.inside);
+          most = g.down.most;
+          each = λ i l.
+              let q : begin + (k - begin + i) ≡ k + i = omega (arith, g.from) in
+              ap (comes_from K) (sym q) ∙ g.down.each (k - begin + i) (omega (arith, left, g.from)) ∙ omega (arith, g.next);
+        }
+
+    pub going_on : {u : List A} {end : ℕ} → ColumnPassed z ys list u K j k end → ColumnPassed z ys old u K c begin end
+    going_on {u} p =
+        let q : begin + (k - begin) ≡ k = omega (arith, g.from) in
+        let r : k - begin + height 30 K j ≡ height 30 K c = omega (arith, left, g.from) in
+        let w : Written z (λ i. get_or ys (k + i) z) list u (begin + (k - begin)) (height 30 K j) = rw q p.copied in
+        record {
+          behind = p.behind ∙ left;
+          copied = rw r at (write_on g.copied w (λ i. let y : k + i ≡ begin + (k - begin + i) = omega (arith, g.from) in ap (λ (m : ℕ). get_or ys m z) y));
+        }
+
+    pub going_ends : K ≤ j → ColumnPassed z ys old list K c begin k
+    going_ends h =
+        let q : k - begin ≡ height 30 K c = omega (arith, g.next, g.from, g.to) in
+        record { behind = omega (arith, q, g.from); copied = rw q at g.copied }
+
+    -- four are left
+    pub going_four : j + 90 < K → k + 3 < K
+    going_four h = omega (arith, g.next, g.from, g.to, g.down.inside)
+
+    module _ (h : j < K) where
+      inside : k < begin + height 30 K c
+      inside = omega (arith, g.next, g.from, g.to)
+
+      pub going_index : k < K
+      going_index = (down-here going_down h).0
+
+      pub going_source : j ≡ comes_from K k
+      going_source = sym (down-here going_down h).1
+
+      pub going_more : {u : List A} {m i : ℕ} → u ≡ set list k (get_or ys k z) → m ≡ k + 1 → i ≡ j + 30 → Going z K ys old c begin u m i
+      going_more {u} {m} {i} e x y =
+          let q : begin + (k - begin) ≡ k = omega (arith, g.from) in
+          let r : k - begin + 1 ≡ m - begin = omega (arith, g.from, x) in
+          let w : Agrees z ys old (set list (begin + (k - begin)) (get_or ys k z)) begin (k - begin + 1) =
+          write_one g.copied (omega (arith, g.long, going_index)) (ap (λ (n : ℕ). get_or ys n z) (sym q)) in
+          record {
+            down = g.down;
+            long = g.long;
+            from = omega (arith, g.from, x);
+            to = omega (arith, inside, x);
+            next = omega (arith, g.next, g.from, x, y);
+            copied = rw e (rw (q, r) at w);
+          }
+
+-- what is read is what step 8 puts there
+module _ {A : Type 0} {z : A} {old : List A} {c begin : ℕ} (bits : List A) where
+  pub reads : {list u : List A} {k j m i : ℕ} → Going z (length bits) (second_interleaved bits) old c begin list k j → j < length bits
+      → u ≡ set list k (get_or bits j z) → m ≡ k + 1 → i ≡ j + 30 → Going z (length bits) (second_interleaved bits) old c begin u m i
+  reads {list} {k = k} g h e x y =
+      going_more g h
+      (e ∙ ap (set list k) (ap (λ (n : ℕ). get_or bits n z) (going_source g h) ∙ sym (second_at bits k z (going_index g h))))
+      x
+      y
+
+  pub reads-four : {list u : List A} {k j : ℕ} → Going z (length bits) (second_interleaved bits) old c begin list k j → j + 90 < length bits
+      → u ≡ four z bits j 30 list k 1 → Going z (length bits) (second_interleaved bits) old c begin u (k + 4) (j + 120)
+  reads-four {k = k} {j} g h e =
+      let a = reads {m = k + 1} {i = j + 30} g (omega arith) refl refl refl in
+      let b = reads {m = k + 2} {i = j + 60} a (omega arith) refl (omega arith) (omega arith) in
+      let d = reads {m = k + 3} {i = j + 90} b (omega arith) refl (omega arith) (omega arith) in
+      reads d h e (omega arith) (omega arith)
+
+-- what is written stands there once step 8 is done
+module _ {A : Type 0} {z : A} {ys old : List A} {c begin : ℕ} where
+  pub laid-long : {k j : ℕ} (values : List A) → Going z (length ys) ys old c begin (second_interleaved values) k j → length values ≡ length ys
+  laid-long values g = sym (second-length values) ∙ going_long g
+
+  pub lays : {u : List A} {k j m i : ℕ} (values : List A) → Going z (length ys) ys old c begin (second_interleaved values) k j → j < length ys
+      → u ≡ set values j (get_or ys k z) → m ≡ k + 1 → i ≡ j + 30 → Going z (length ys) ys old c begin (second_interleaved u) m i
+  lays {k = k} values g h e x y =
+      let v = get_or ys k z in
+      let l = laid-long values g in
+      going_more g h
+      (ap second_interleaved e
+      ∙ ap (λ (n : ℕ). second_interleaved (set values n v)) (going_source g h ∙ ap (λ (n : ℕ). comes_from n k) (sym l))
+      ∙ second-set values k v (omega (arith, l, going_index g h)))
+      x
+      y
+
+  pub lays_four : {u : List A} {k j : ℕ} (values : List A) → Going z (length ys) ys old c begin (second_interleaved values) k j → j + 90 < length ys
+      → u ≡ four z ys k 1 values j 30 → Going z (length ys) ys old c begin (second_interleaved u) (k + 4) (j + 120)
+  lays_four {k = k} {j} values g h e =
+      let v1 = set values j (get_or ys k z) in
+      let v2 = set v1 (j + 30) (get_or ys (k + 1) z) in
+      let v3 = set v2 (j + 60) (get_or ys (k + 2) z) in
+      let a = lays {u = v1} {m = k + 1} {i = j + 30} values g (omega arith) refl refl refl in
+      let b = lays {u = v2} {m = k + 2} {i = j + 60} v1 a (omega arith) refl (omega arith) (omega arith) in
+      let d = lays {u = v3} {m = k + 3} {i = j + 90} v2 b (omega arith) refl (omega arith) (omega arith) in
+      lays v3 d h e (omega arith) (omega arith)
+
+-- ---- from column to column
+
+-- before turn t, which begins at index k
+pub record Columned {A : Type 0} (z : A) (K : ℕ) (ys old list : List A) (t k : ℕ) : Type 0 where
+  pub most : K ≤ most_bits
+  pub whole : length ys ≡ K
+  pub long : length old ≡ K
+  pub some : t ≤ 30
+  pub begun : k ≡ read_before K t
+  pub copied : Agrees z ys old list 0 k
+
+module _ {A : Type 0} {z : A} {K : ℕ} {ys old : List A} where
+  pub columned_starts : K ≤ most_bits → length ys ≡ K → length old ≡ K → Columned z K ys old old 0 0
+  unfolding sum_to
+  columned_starts m e q = record { most = m; whole = e; long = q; some = omega arith; begun = refl; copied = write_none z _ old 0 }
+
+  module _ {list : List A} {t k : ℕ} (g : Columned z K ys old list t k) where
+    pub columned_long : length list ≡ K
+    columned_long = g.copied.long ∙ g.long
+
+    pub columned_ends : 30 ≤ t → list ≡ ys
+    columned_ends h =
+        let q : t ≡ 30 = omega (arith, g.some) in
+        let e : k ≡ K = g.begun ∙ ap (read_before K) q ∙ read_all K in
+        ext_get_or z list ys (columned_long ∙ sym g.whole)
+        (λ i l. let y = g.copied.there i (omega (arith, e, columned_long)) in rw (zero-add i) at y)
+
+    module _ {c : ℕ} (h : t < 30) (e : c ≡ get_or order t 0) where
+      pub columned_down : Down K c k
+      columned_down = turn-down K t h e g.begun g.most
+
+      pub columned_more : {u : List A} {end : ℕ} → ColumnPassed z ys list u K c k end → Columned z K ys old u (t + 1) end
+      columned_more {u} p =
+          record {
+            most = g.most;
+            whole = g.whole;
+            long = g.long;
+            some = omega arith;
+            begun = p.behind ∙ turn_ends K t h e g.begun ∙ ap (read_before K) (sym (add-one t));
+            copied =
+                rw p.behind (write_on g.copied (rw (zero-add k) p.copied) (λ i. ap (λ (m : ℕ). get_or ys m z) (sym (zero-add (k + i)))));
+          }
