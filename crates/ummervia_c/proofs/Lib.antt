@@ -1,1 +1,3 @@
 pub mod Unique
+pub mod Demand1
+pub mod Answered
