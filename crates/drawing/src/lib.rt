@@ -2,6 +2,6 @@
 #![tactic(auto)]
 
 pub mod cells;
-pub mod frame;
+pub mod layout;
 pub mod scale;
 pub mod text;

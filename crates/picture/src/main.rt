@@ -4,7 +4,7 @@
 #![tactic(auto)]
 
 use counters::{FrameNumber, PhchNumber};
-use drawing::frame::{bottom, say_frame};
+use drawing::layout::{bottom, say_frame};
 use drawing::scale::scale_of;
 use drawing::text::{ROOM, flush, pair, say};
 use legend::{FIRST, LINE, say_channels, say_marks, say_title};

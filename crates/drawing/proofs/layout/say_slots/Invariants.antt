@@ -1,5 +1,5 @@
 use Prim.Native.Nat.{◌+◌, ◌*◌, ◌≤◌, ◌-◌}
-use Rattle.drawing.proofs.frame.say_slots.Given as goal
+use Rattle.drawing.proofs.layout.say_slots.Given as goal
 
 abbrev pub invariant-loop-m : goal.invariant-loop-m
 invariant-loop-m g l = (l.m ≤ 240) × (l.top ≤ l.y + 1400000 * l.m)

@@ -1,5 +1,5 @@
 use Prim.Native.Nat.{◌+◌, ◌*◌, ◌≤◌, ◌-◌}
-use Rattle.drawing.proofs.frame.slots_bottom.Given as goal
+use Rattle.drawing.proofs.layout.slots_bottom.Given as goal
 
 abbrev pub invariant-loop-m : goal.invariant-loop-m
 invariant-loop-m l = (l.m ≤ 240) × (l.b ≤ l.y + 1400000 * l.m)

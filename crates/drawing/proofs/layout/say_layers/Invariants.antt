@@ -1,6 +1,6 @@
 use Prim.Native.Nat.{◌+◌, ◌≤◌, ◌-◌}
 use Rattle.sheet.specs.Counts.{most_channels}
-use Rattle.drawing.proofs.frame.say_layers.Given as goal
+use Rattle.drawing.proofs.layout.say_layers.Given as goal
 
 abbrev pub invariant-loop-layer : goal.invariant-loop-layer
 invariant-loop-layer g l = l.layer ≤ most_channels + 4

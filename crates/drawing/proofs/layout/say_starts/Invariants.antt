@@ -1,5 +1,5 @@
 use Prim.Native.Nat.{◌≤◌, ◌-◌}
-use Rattle.drawing.proofs.frame.say_starts.Given as goal
+use Rattle.drawing.proofs.layout.say_starts.Given as goal
 
 abbrev pub invariant-loop-row : goal.invariant-loop-row
 invariant-loop-row g l = l.row ≤ l.rows
