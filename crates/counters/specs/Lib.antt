@@ -1,3 +1,4 @@
 pub mod Lines
+pub mod Refusals
 pub mod Counting
 pub mod Promised

@@ -1,6 +1,5 @@
 -- The numbers that a call answers: lines of a condition and its number, of which the first that holds is given.
 use Rattle.std.specs.Prelude.{Bool, cond, List, [], ◌∷◌, ℕ, eqb}
-use Rattle.counters.specs.declared.Answer.{Answer}
 
 pub record Line : Type 0 where
   pub holds : Bool
@@ -17,6 +16,11 @@ first_of (l ∷ ls) = cond l.holds l.number (first_of ls)
 -- x where the number n accepts, y where it refuses
 abbrev pub given : {A : Type 0} → ℕ → A → A → A
 given n x y = cond (eqb n 0) x y
+
+-- what C is told of a call: its number, 0 where it accepts, and how many values it wrote; with number 12 the index of the first bad value
+pub record Answer : Type 0 where
+  pub number : ℕ
+  pub at : ℕ
 
 -- an answer: the number, and the count of values written where it accepts
 abbrev pub answer_of : ℕ → ℕ → Answer

@@ -1,9 +1,11 @@
-// The four counters that document 002 lists apart, and the answer of a call.
+// The four counters that document 002 lists apart; and why a call refuses.
 // Each counter is a type of its own, so that none is taken for another; a number is taken out of one only where a step defines it.
 #![tactic(auto)]
 
 ghost use Rattle.std.specs.Prelude.{◌≡◌, ◌+◌, ◌-◌, ◌%◌, ◌≤◌, ◌<◌, ltb};
 ghost use Rattle.counters.specs.Counting.{among};
+
+pub mod refusal;
 
 // Whether k is one of 1 to n.
 pub fn is_among(k: u32, n: u16) -> bool
@@ -127,11 +129,4 @@ impl FrameNumber {
     {
         self.0 as u64
     }
-}
-
-// A call's number, 0 where it is accepted, and how many values it wrote; with number 12 the index of the first bad value.
-#[derive(Clone, Copy)]
-pub struct Answer {
-    pub number: u32,
-    pub at: u64,
 }

@@ -18,10 +18,9 @@ use Rattle.sheet.specs.Counts.{most_codes, most_paired, most_bits, most_log, lon
 use Rattle.sheet.specs.Layout.{slot_width}
 use Rattle.sheet.specs.Fields.{spare_in, sheet_of, blank, phchs_of, capacity_of, log_of}
 use Rattle.sheet.specs.Sizes.{equalised_all, capacity_all, bits_needed, bytes_needed}
-use Rattle.sheet.specs.Numbers.{empty_place, slot_beyond, some_beyond, beyond_uplink, beyond_subframe, silent, misfit, load_lines, read_lines, read_number, read_answer}
+use Rattle.sheet.specs.Numbers.{empty_place, slot_beyond, some_beyond, beyond_uplink, beyond_subframe, silent, misfit, load_lines, read_lines, read_number, SheetAnswer, read_answer}
 use Rattle.sheet.specs.Range.{Ranged}
 use Rattle.sheet.specs.declared.Sheet.{Sheet}
-use Rattle.sheet.specs.declared.SheetAnswer.{SheetAnswer}
 use Rattle.sheet.proofs.SlotLaws.{width_most}
 
 -- the three of line 4, and line 5 of one slot

@@ -1,14 +1,15 @@
 -- The lines of the table of numbers that a sheet alone has, 1 to 5, 13, 14, and 6 to 8, and what reading a sheet answers.
-use Rattle.std.specs.Prelude.{Bool, not, ◌&&◌, ◌||◌, List, [], ◌∷◌, ℕ, ◌+◌, ◌-◌, ◌*◌, eqb, ltb, length, get_or}
+use Rattle.std.specs.Prelude.{Bool, not, ◌&&◌, ◌||◌, List, [], ◌∷◌, ℕ, ◌+◌, ◌-◌, ◌*◌, Result, eqb, ltb, length, get_or}
 use Rattle.laws.specs.Sums.{sum_to, any_to}
 use Rattle.counters.specs.Lines.{Line, line, first_of, given}
+use Rattle.counters.specs.Refusals.{number_of, value_of}
+use Rattle.counters.specs.declared.refusal.Refusal.{Refusal}
 use Rattle.bits.specs.Bits.{bits_at}
 use Rattle.sheet.specs.Counts.{most_codes, most_paired, most_lcr_slots, most_bits, most_log}
 use Rattle.sheet.specs.Fields.{spare_in, sheet_of, blank, encoded_of, phchs_of, capacity_of, log_in}
 use Rattle.sheet.specs.Sizes.{equalised_all, places_all, capacity_all, bits_needed, bytes_needed}
 use Rattle.sheet.specs.declared.sizes.Load.{Load}
 use Rattle.sheet.specs.declared.Sheet.{Sheet}
-use Rattle.sheet.specs.declared.SheetAnswer.{SheetAnswer}
 
 -- 4: sheet length not what its fields need, or a spare or padding bit set
 abbrev pub misfit : List ℕ → Bool
@@ -77,6 +78,15 @@ read_lines s =
 abbrev pub read_number : List ℕ → ℕ
 read_number s = first_of (read_lines s)
 
+-- what a caller is told of a sheet: its number, and its fields where that is 0
+pub record SheetAnswer : Type 0 where
+  pub number : ℕ
+  pub sheet : Sheet
+
 -- the fields where no line holds, zeros where one does
 abbrev pub read_answer : List ℕ → SheetAnswer
 read_answer s = record { number = read_number s; sheet = given (read_number s) (sheet_of s) blank }
+
+-- what reading a sheet leaves, in these terms
+abbrev pub read_left : Result Sheet Refusal → SheetAnswer
+read_left r = record { number = number_of r; sheet = value_of blank r }

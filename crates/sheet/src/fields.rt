@@ -39,14 +39,12 @@ fn read_channels(s: &[u8], n: usize) -> Channels
         e: [0; CHANNELS],
         rm: [0; CHANNELS],
     };
-    let mut k: usize = 0;
-    while k < n {
+    for k in 0..n {
         let at = HEAD_WIDTH + CHANNEL_WIDTH * k;
         let two = bits::read_field(s, at, TTI_WIDTH + ENCODED_WIDTH);
         c.tti[k] = (two / TTI_COUNTS) as u16;
         c.e[k] = (two % TTI_COUNTS) as u16;
         c.rm[k] = (bits::read_byte(s, at / 8 + 2) + 1) as u16;
-        k += 1;
     }
     c
 }
@@ -76,19 +74,15 @@ fn read_slots(s: &[u8], up: usize, start: usize, t: usize) -> Slots
     };
     let before = LOG_WIDTH * up;
     let mut at = start;
-    let mut i: usize = 0;
-    while i < t {
+    for i in 0..t {
         let p = (bits::read_field(s, at, CODES_WIDTH) + 1) as usize;
         r.phchs[i] = p as u16;
         at += CODES_WIDTH;
-        let mut j: usize = 0;
-        while j < p {
+        for j in 0..p {
             let m = CODES * i + j;
             r.caps[m] = read_capacity(s, up, at + before);
             at += before + CAPACITY_WIDTH;
-            j += 1;
         }
-        i += 1;
     }
     r
 }
@@ -120,14 +114,12 @@ fn read_logs<'a>(
         return logs;
     }
     let mut at = start;
-    let mut i: usize = 0;
-    while i < t {
+    for i in 0..t {
         let p = phchs[i];
         let first = at + CODES_WIDTH;
         logs[PAIRED * i] = bits::read_field(s, first, LOG_WIDTH) as u16;
         logs[PAIRED * i + 1] = second_log(s, first + (LOG_WIDTH + CAPACITY_WIDTH), p);
         at += slot_width(1, p);
-        i += 1;
     }
     logs
 }

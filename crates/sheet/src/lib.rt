@@ -2,7 +2,6 @@
 #![tactic(auto)]
 
 ghost use Rattle.std.specs.Prelude.{◌≡◌, ◌≤◌};
-ghost use Rattle.sheet.specs.Fields.{blank};
 
 pub mod counts;
 pub mod fields;
@@ -29,33 +28,6 @@ pub struct Sheet {
     pub phchs: [u16; SLOTS],
     pub caps: [u16; CAPACITIES],
     pub logs: [u16; LOGS],
-}
-
-// What reading a sheet answers: its number, and its fields where that is 0.
-#[derive(Clone, Copy)]
-pub struct SheetAnswer {
-    pub number: u32,
-    pub sheet: Sheet,
-}
-
-// A sheet of zeros.
-pub fn none() -> Sheet
-    ensures { result ≡ blank }
-{
-    Sheet {
-        version: 0,
-        mode: 0,
-        channels: 0,
-        slots: 0,
-        uplink: 0,
-        lcr: 0,
-        tti: [0; CHANNELS],
-        e: [0; CHANNELS],
-        rm: [0; CHANNELS],
-        phchs: [0; SLOTS],
-        caps: [0; CAPACITIES],
-        logs: [0; LOGS],
-    }
 }
 
 // A field as a number to calculate with, and as a count of turns.

@@ -1,132 +1,109 @@
-// A sheet read from its bytes, with the number that the reading answers.
-ghost use Rattle.std.specs.Prelude.{◌≡◌, ◌≤◌, ◌<◌};
-ghost use Rattle.counters.specs.Lines.{first_of};
+// A sheet read from its bytes, and why the reading refuses it.
+ghost use Rattle.std.specs.Prelude.{◌≡◌, ◌<◌, IfOk};
+ghost use Rattle.counters.specs.Refusals.{index_of, Refuses};
 ghost use Rattle.sheet.specs.Counts.{most_slots};
 ghost use Rattle.sheet.specs.Fields.{sheet_of};
-ghost use Rattle.sheet.specs.Numbers.{misfit, slot_beyond, some_beyond, beyond_uplink, beyond_subframe, silent, load_of, load_lines, read_number, read_answer};
+ghost use Rattle.sheet.specs.Sizes.{places_all};
+ghost use Rattle.sheet.specs.Numbers.{misfit, slot_beyond, beyond_uplink, beyond_subframe, silent, load_lines, read_lines, read_left, read_answer};
 ghost use Rattle.sheet.specs.Range.{Ranged};
 
-use crate::counts::{LCR_SLOTS, LOGS, MOST_BITS, MOST_LOG, PAIRED, SLOTS};
+use crate::Sheet;
+use crate::counts::{LCR_SLOTS, MOST_BITS, MOST_LOG, PAIRED};
 use crate::fields::read_fields;
 use crate::layout::{SPARE_AT, SPARE_WIDTH};
-use crate::sizes::{Load, all_equalised, bits_needed, frame_places, whole_load};
-use crate::{Sheet, SheetAnswer, count, none};
+use counters::refusal::Refusal;
 
-// Whether every E is 0.
-fn all_silent(fields: Sheet) -> bool
-    requires { Ranged fields }
-    ensures { result ≡ silent fields }
-{
-    let n = count(fields.channels);
-    let e = fields.e;
-    let mut i: usize = 0;
-    while i < n {
-        if e[i] != 0 {
+impl Sheet {
+    // Whether every E is 0.
+    fn is_silent(&self) -> bool
+        requires { Ranged self.now }
+        ensures { result ≡ silent self.now }
+    {
+        for i in 0..usize::from(self.channels) {
+            if self.e[i] != 0 {
+                return false;
+            }
+        }
+        true
+    }
+
+    // Whether slot t of an uplink sheet, which has n physical channels, has more than two, or a logarithm over 4.
+    fn slot_beyond(&self, t: usize, n: usize) -> bool
+        requires { t < most_slots }
+        ensures { result ≡ slot_beyond self.now.logs t n }
+    {
+        if PAIRED < n {
+            return true;
+        }
+        for p in 0..n {
+            if MOST_LOG < self.logs[PAIRED * t + p] {
+                return true;
+            }
+        }
+        false
+    }
+
+    // Whether a slot of the sheet is; in downlink none is asked.
+    fn beyond_uplink(&self) -> bool
+        requires { Ranged self.now }
+        ensures { result ≡ beyond_uplink self.now }
+    {
+        if self.uplink == 0 {
             return false;
         }
-        i += 1;
-    }
-    true
-}
-
-// Whether slot t of an uplink sheet, which has n physical channels, has more than two, or a logarithm over 4.
-fn slot_beyond(logs: &[u16; LOGS], t: usize, n: usize) -> bool
-    requires { t < most_slots }
-    ensures { result ≡ slot_beyond logs.now t n }
-{
-    if PAIRED < n {
-        return true;
-    }
-    let mut p: usize = 0;
-    while p < n {
-        if MOST_LOG < logs[PAIRED * t + p] {
-            return true;
+        for t in 0..usize::from(self.slots) {
+            if self.slot_beyond(t, usize::from(self.phchs[t])) {
+                return true;
+            }
         }
-        p += 1;
+        false
     }
-    false
-}
 
-// Whether one of n slots is so.
-fn some_beyond<'a>(phchs: &'a [u16; SLOTS], logs: &'a [u16; LOGS], n: usize) -> bool
-    requires { n ≤ most_slots }
-    ensures { result ≡ some_beyond phchs.now logs.now n }
-{
-    let mut t: usize = 0;
-    while t < n {
-        if slot_beyond(logs, t, count(phchs[t])) {
-            return true;
+    // Whether a sub-frame at 1.28 Mcps has more slots than seven.
+    fn beyond_subframe(&self) -> bool
+        ensures { result ≡ beyond_subframe self.now }
+    {
+        if self.lcr == 0 {
+            return false;
         }
-        t += 1;
+        LCR_SLOTS < self.slots
     }
-    false
-}
 
-// Whether one of the sheet is; in downlink none is asked.
-pub fn beyond_uplink(fields: Sheet) -> bool
-    requires { Ranged fields }
-    ensures { result ≡ beyond_uplink fields }
-{
-    if fields.uplink == 0 {
-        return false;
+    // The lines from 5 on; the places of a sub-frame, where none of them refuses.
+    pub fn check_load(&self) -> Result<u64, Refusal>
+        requires { Ranged self.now }
+        ensures number { Refuses (load_lines self.now) result }
+        ensures places { IfOk result (λ w. w ≡ places_all self.now) }
+    {
+        let load = self.load();
+        if load.empty {
+            return Err(Refusal::NoCapacity);
+        }
+        if self.beyond_uplink() {
+            return Err(Refusal::BadUplink);
+        }
+        if self.beyond_subframe() {
+            return Err(Refusal::BadSubframe);
+        }
+        if MOST_BITS < self.all_equalised() {
+            return Err(Refusal::ManyBits);
+        }
+        if MOST_BITS < self.frame_places(load.sum) {
+            return Err(Refusal::ManyPlaces);
+        }
+        if self.is_silent() {
+            return Err(Refusal::NoBits);
+        }
+        Ok(load.sum)
     }
-    let phchs = fields.phchs;
-    let logs = fields.logs;
-    some_beyond(&phchs, &logs, count(fields.slots))
-}
-
-// Whether a sub-frame at 1.28 Mcps has more slots than seven.
-fn beyond_subframe(fields: Sheet) -> bool
-    ensures { result ≡ beyond_subframe fields }
-{
-    if fields.lcr == 0 {
-        return false;
-    }
-    LCR_SLOTS < fields.slots
-}
-
-// The number of the lines from 5 on, `load` being what the capacities come to, and `beyond` whether 13 has something to refuse.
-fn loaded_number(fields: Sheet, load: Load, beyond: bool) -> u32
-    requires { Ranged fields × (load ≡ load_of fields) × (beyond ≡ beyond_uplink fields) }
-    ensures { result ≡ first_of (load_lines fields) }
-{
-    if load.empty {
-        return 5;
-    }
-    if beyond {
-        return 13;
-    }
-    if beyond_subframe(fields) {
-        return 14;
-    }
-    if MOST_BITS < all_equalised(fields) {
-        return 6;
-    }
-    if MOST_BITS < frame_places(fields, load.sum) {
-        return 7;
-    }
-    if all_silent(fields) {
-        return 8;
-    }
-    0
-}
-
-// The same of the fields alone.
-pub fn load_number(fields: Sheet) -> u32
-    requires { Ranged fields }
-    ensures { result ≡ first_of (load_lines fields) }
-{
-    let load = whole_load(&fields.phchs, &fields.caps, count(fields.slots));
-    let beyond = beyond_uplink(fields);
-    loaded_number(fields, load, beyond)
 }
 
 // Whether the length is not what the fields need, or the spare bit or a padding bit is set.
-fn fails_fit(s: &[u8], fields: Sheet) -> bool
-    requires { (fields ≡ sheet_of s.now) × Ranged fields }
+fn fails_fit(s: &[u8], fields: &Sheet) -> bool
+    requires { (fields.now ≡ sheet_of s.now) × Ranged fields.now }
     ensures { result ≡ misfit s.now }
 {
-    let need = bits_needed(fields);
+    let need = fields.bits_needed();
     if s.len() != (need + 7) / 8 {
         return true;
     }
@@ -139,37 +116,32 @@ fn fails_fit(s: &[u8], fields: Sheet) -> bool
     false
 }
 
-// The number of a sheet's bytes.
-pub fn read_number(s: &[u8], fields: Sheet, load: Load, beyond: bool) -> u32
-    requires { (fields ≡ sheet_of s.now) × Ranged fields × (load ≡ load_of fields) × (beyond ≡ beyond_uplink fields) }
-    ensures { result ≡ read_number s.now }
+// The lines of a sheet's bytes; the places of a sub-frame, where none of them refuses.
+pub fn check_bytes(s: &[u8], fields: &Sheet) -> Result<u64, Refusal>
+    requires { (fields.now ≡ sheet_of s.now) × Ranged fields.now }
+    ensures number { Refuses (read_lines s.now) result }
+    ensures places { IfOk result (λ w. w ≡ places_all fields.now) }
 {
     if s.len() < 2 {
-        return 1;
+        return Err(Refusal::ShortSheet);
     }
     if fields.version != 1 {
-        return 2;
+        return Err(Refusal::OtherVersion);
     }
     if fields.slots == 0 {
-        return 3;
+        return Err(Refusal::NoSlots);
     }
     if fails_fit(s, fields) {
-        return 4;
+        return Err(Refusal::Malformed);
     }
-    loaded_number(fields, load, beyond)
+    fields.check_load()
 }
 
-// Reads a sheet: its number, and its fields where that is 0, zeros where it is not.
-pub fn read_sheet(bytes: &[u8]) -> SheetAnswer
-    ensures { result ≡ read_answer bytes.now }
+// Reads a sheet.
+pub fn read_sheet(bytes: &[u8]) -> Result<Sheet, Refusal>
+    ensures { (read_left result ≡ read_answer bytes.now) × (index_of result ≡ 0) }
 {
-    let sheet = read_fields(bytes);
-    let load = whole_load(&sheet.phchs, &sheet.caps, count(sheet.slots));
-    let beyond = beyond_uplink(sheet);
-    let number = read_number(bytes, sheet, load, beyond);
-    if number == 0 {
-        return SheetAnswer { number, sheet };
-    }
-    let sheet = none();
-    SheetAnswer { number, sheet }
+    let fields = read_fields(bytes);
+    check_bytes(bytes, &fields)?;
+    Ok(fields)
 }

@@ -1,0 +1,6 @@
+use lib.ListN.{get_or}
+use Rattle.laws.proofs.SumLaws.{Summed}
+use Rattle.sheet.proofs.Sheet.all_encoded.Given as goal
+
+abbrev pub invariant-loop-i : goal.invariant-loop-i
+invariant-loop-i l = Summed (λ k. get_or l.self.e k 0) 65535 l.i-end l.sum l.i
