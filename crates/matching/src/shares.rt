@@ -8,7 +8,7 @@ ghost use Rattle.matching.specs.Shares.{weight_all, parts_of, cuts_of};
 
 use sheet::counts::CHANNELS;
 use sheet::sizes::segment;
-use sheet::{Sheet, count, wide};
+use sheet::Sheet;
 
 // A difference by its sign (true: below 0) and its magnitude.
 #[derive(Clone, Copy)]
@@ -38,42 +38,34 @@ fn weight(rm: u16, e: u16, tti: u16) -> u64
     requires { (rm ≤ most_ratio) × (e ≤ most_encoded) × (tti ≤ most_tti) }
     ensures { (result ≡ rm * segment_in e (frames_in tti)) × (result ≤ most_ratio * most_encoded) }
 {
-    wide(rm) * segment(e, tti)
+    u64::from(rm) * segment(e, tti)
 }
 
 // RM x N added up over the first 0 to I channels, 0 past them.
-fn parts(fields: Sheet) -> [u64; CHANNELS + 1]
-    requires { Ranged fields }
-    ensures { result ≡ parts_of fields }
+fn parts(fields: &Sheet) -> [u64; CHANNELS + 1]
+    requires { Ranged fields.now }
+    ensures { result ≡ parts_of fields.now }
 {
-    let n = count(fields.channels);
-    let rm = fields.rm;
-    let e = fields.e;
-    let tti = fields.tti;
     let mut all = [0u64; CHANNELS + 1];
     let mut part: u64 = 0;
-    let mut i: usize = 0;
-    while i < n {
-        part += weight(rm[i], e[i], tti[i]);
-        i += 1;
-        all[i] = part;
+    for i in 0..usize::from(fields.channels) {
+        part += weight(fields.rm[i], fields.e[i], fields.tti[i]);
+        all[i + 1] = part;
     }
     all
 }
 
 // Z_0 to Z_I, 0 past them, of the fields and their D.
-pub fn cuts(fields: Sheet, d: u64) -> [u16; CHANNELS + 1]
-    requires { Ranged fields × (0 < weight_all fields) × (d ≡ capacity_all fields) × (d ≤ most_bits) }
-    ensures { result ≡ cuts_of fields }
+pub fn cuts(fields: &Sheet, d: u64) -> [u16; CHANNELS + 1]
+    requires { Ranged fields.now × (0 < weight_all fields.now) × (d ≡ capacity_all fields.now) × (d ≤ most_bits) }
+    ensures { result ≡ cuts_of fields.now }
 {
-    let n = count(fields.channels);
+    let n = usize::from(fields.channels);
     let parts = parts(fields);
     let all = parts[n];
     let mut z = [0u16; CHANNELS + 1];
-    let mut i: usize = 0;
-    while i < n {
-        i += 1;
-        z[i] = (d * parts[i] / all) as u16;
+    for i in 0..n {
+        z[i + 1] = (d * parts[i + 1] / all) as u16;
     }
     z
 }

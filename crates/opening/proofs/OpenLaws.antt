@@ -9,8 +9,6 @@ use Rattle.laws.specs.Tables.{table, up_to}
 use Rattle.laws.proofs.TestLaws.{split}
 use Rattle.laws.proofs.LeastLaws.{passes_one}
 use Rattle.laws.proofs.TableLaws.{table-set, filled_at}
-use Rattle.counters.specs.Lines.{given}
-use Rattle.counters.proofs.LineLaws.{given_yes, given_no}
 use borrow.Author.Tests.{ltb-false}
 use Rattle.sheet.specs.Counts.{most_channels, most_bits, most_encoded}
 use Rattle.sheet.specs.Fields.{sheet_of, encoded_of}
@@ -23,9 +21,8 @@ use Rattle.sheet.proofs.FieldLaws.{ranged_in, caps-whole}
 use Rattle.sheet.proofs.NumberLaws.{loads-zero, readable}
 use Rattle.matching.specs.Shares.{weight_of, weight_all, cut_of, share_of, channel_of}
 use Rattle.matching.proofs.ShareLaws.{weight_heard, cut_first, cut_last, cut_up, cuts_rise, cuts_at, share_most, channel_passes}
-use Rattle.opening.specs.Opened.{sizes_of, opened_of, closed, open_answer, Opens}
+use Rattle.opening.specs.Opened.{sizes_of, opened_of, Opens}
 use Rattle.opening.specs.declared.Opened.{Opened}
-use Rattle.opening.specs.declared.OpenAnswer.{OpenAnswer}
 
 -- N of each channel, by the arrays, filled up to k
 abbrev pub sizes_to : List ℕ → List ℕ → ℕ → List ℕ
@@ -123,38 +120,6 @@ module _ (o : Opened) (h : Opens o) (x : ℕ) (l : x < capacity_all o.fields) wh
       (passes_one (cut_of of) x of.channels (channel_of of x) i (cuts_rise (capacity_all of) (weight_of of) of.channels w)
       (channel_passes of x w l) m (omega (arith, u.all i (omega arith), low-is o h i m)) (rw add-one at hi))
 
--- the answers
-made : (n m : ℕ) (a b : Opened) → n ≡ m → a ≡ b → ◌≡◌ {A = OpenAnswer} (record { number = n; opened = a }) (record { number = m; opened = b })
-made n m a b p q = rw (p, q)
-
-module _ (s : List ℕ) (n : ℕ) (e : n ≡ read_number s) where
-  pub accepted_read : (sh : Sheet) → sh ≡ sheet_of s → n ≡ 0 → Accepted sh
-  accepted_read sh f z = subst Accepted (sym f) (accepted_in s (sym e ∙ z))
-
-  pub opened_yes : (sh : Sheet) (o : Opened) → sh ≡ sheet_of s → n ≡ 0 → o ≡ opened_of sh
-      → ◌≡◌ {A = OpenAnswer} (record { number = n; opened = o }) (open_answer s)
-  opened_yes sh o f z p =
-      made n (read_number s) o (given (read_number s) (opened_of (sheet_of s)) closed) e
-      (p ∙ ap opened_of f ∙ sym (given_yes (read_number s) (opened_of (sheet_of s)) closed (sym e ∙ z)))
-
-  pub opened_no : (o : Opened) → (n ≡ 0 → ⊥) → o ≡ closed → ◌≡◌ {A = OpenAnswer} (record { number = n; opened = o }) (open_answer s)
-  opened_no o z p =
-      made n (read_number s) o (given (read_number s) (opened_of (sheet_of s)) closed) e
-      (p ∙ sym (given_no (read_number s) (opened_of (sheet_of s)) closed (λ q. z (e ∙ q))))
-
 -- what an accepted opening is
-module _ (s : List ℕ) (a : OpenAnswer) (e : a ≡ open_answer s) where
-  pub number_open : a.number ≡ read_number s
-  number_open = ap (λ (x : OpenAnswer). x.number) e
-
-  pub opened-is : a.number ≡ 0 → a.opened ≡ opened_of (sheet_of s)
-  opened-is z =
-      ap (λ (x : OpenAnswer). x.opened) e ∙ given_yes (read_number s) (opened_of (sheet_of s)) closed (sym number_open ∙ z)
-
-  pub fields_open : a.number ≡ 0 → a.opened.fields ≡ sheet_of s
-  fields_open z = ap (λ (x : Opened). x.fields) (opened-is z)
-
-  pub opens : a.number ≡ 0 → Opens a.opened
-  opens z =
-      let q = opened-is z in
-      subst Opens (sym q) (record { own = refl; accepted = accepted_in s (sym number_open ∙ z) })
+pub opens : (s : List ℕ) (o : Opened) → 0 ≡ read_number s → o ≡ opened_of (sheet_of s) → Opens o
+opens s o z e = subst Opens (sym e) (record { own = refl; accepted = accepted_in s (sym z) })

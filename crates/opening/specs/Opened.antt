@@ -1,16 +1,12 @@
 -- An opened sheet: its fields with the numbers that every frame needs of them, worked out once.
-use Rattle.std.specs.Prelude.{◌≡◌, List, ℕ, ◌+◌, replicate}
+use Rattle.std.specs.Prelude.{◌≡◌, List, ℕ}
 use Rattle.laws.specs.Tables.{table, up_to}
-use Rattle.counters.specs.Lines.{given}
 use Rattle.sheet.specs.Counts.{most_channels}
-use Rattle.sheet.specs.Fields.{sheet_of, blank}
 use Rattle.sheet.specs.Sizes.{size_of}
-use Rattle.sheet.specs.Numbers.{read_number}
 use Rattle.sheet.specs.Range.{Accepted}
 use Rattle.sheet.specs.declared.Sheet.{Sheet}
 use Rattle.matching.specs.Shares.{cuts_of}
 use Rattle.opening.specs.declared.Opened.{Opened}
-use Rattle.opening.specs.declared.OpenAnswer.{OpenAnswer}
 
 -- N of each channel, 0 past them
 unfoldable pub sizes_of : Sheet → List ℕ
@@ -19,14 +15,6 @@ sizes_of sh = table (λ i. up_to sh.channels i (size_of sh i)) 0 most_channels
 -- the numbers of a sheet: N of each channel, and Z_0 to Z_I
 abbrev pub opened_of : Sheet → Opened
 opened_of sh = record { fields = sh; sizes = sizes_of sh; cuts = cuts_of sh }
-
--- the zeros that a refused opening gives
-abbrev pub closed : Opened
-closed = record { fields = blank; sizes = replicate most_channels 0; cuts = replicate (most_channels + 1) 0 }
-
--- what opening a sheet's bytes answers
-abbrev pub open_answer : List ℕ → OpenAnswer
-open_answer s = record { number = read_number s; opened = given (read_number s) (opened_of (sheet_of s)) closed }
 
 -- its numbers are its sheet's, and that is accepted
 pub record Opens (o : Opened) : Type 0 where

@@ -18,9 +18,9 @@ overflow_cast-all c = Fits-le c.segment.ensures.1 (search rules)
 
 pub loop-i-preserved : goal.loop-i-preserved
 loop-i-preserved c =
-    let f = c.args.fields in
+    let f = c.args.fields.now in
     let l = c.loop-i in
     (omega arith, sizes_more f.e f.tti l.i l.all (omega arith) l.invariant.1 c.segment.ensures.0)
 
 pub returns : goal.returns
-returns c = c.loop-i.invariant.1 ∙ sizes_all c.args.fields c.loop-i.i (omega arith)
+returns c = c.loop-i.invariant.1 ∙ sizes_all c.args.fields.now c.loop-i.i (omega arith)

@@ -1,5 +1,5 @@
 use mathlib.Core.Path.{◌≡◌}
-use Prim.Native.Nat.{◌*◌, ◌-◌, ◌/◌, ◌≤◌}
+use Prim.Native.Nat.{◌*◌, ◌/◌, ◌≤◌}
 use lib.ListN.{get_or}
 use Rattle.matching.proofs.ShareLaws.{filled_to}
 use Rattle.matching.proofs.shares.cuts.Given as goal
@@ -7,5 +7,3 @@ use Rattle.matching.proofs.shares.cuts.Given as goal
 abbrev pub invariant-loop-i : goal.invariant-loop-i
 invariant-loop-i l = (l.i ≤ l.n) × (l.z ≡ filled_to (λ k. l.d * get_or l.parts k 0 / l.all) l.i)
 
-abbrev pub decreases-loop-i : goal.decreases-loop-i
-decreases-loop-i l = l.n - l.i

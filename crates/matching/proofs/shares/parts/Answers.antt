@@ -24,4 +24,4 @@ loop-i-preserved c =
 pub returns : goal.returns
 returns c =
     let l = c.loop-i in
-    l.invariant.3 ∙ parts_all c.args.fields l.i (omega arith)
+    l.invariant.3 ∙ parts_all c.args.fields.now l.i (omega arith)
