@@ -1,3 +1,4 @@
 pub mod LineLaws
 pub mod CountLaws
 pub mod PromiseLaws
+pub mod RefusalLaws

@@ -1,13 +1,11 @@
 -- The lines 9 to 12 of the table of numbers, and what a call leaves that looks at lent values before it writes others.
-use Rattle.std.specs.Prelude.{◌≡◌, Bool, not, ◌||◌, cond, List, [], ◌∷◌, ◌++◌, ℕ, eqb, ltb, length}
+use Rattle.std.specs.Prelude.{◌≡◌, Bool, not, ◌||◌, cond, List, [], ◌∷◌, ◌++◌, ℕ, Option, Some, None, Result, Ok, Err, eqb, ltb, length}
 use Rattle.laws.specs.FirstFail.{first_fail}
-use Rattle.counters.specs.Lines.{Line, line, first_of, given}
-use Rattle.counters.specs.declared.Answer.{Answer}
-use Rattle.sheet.specs.Fields.{sheet_of}
+use Rattle.counters.specs.Lines.{Line, line, first_of, given, Answer}
+use Rattle.counters.specs.Refusals.{number_of, index_of}
+use Rattle.counters.specs.declared.refusal.Refusal.{Refusal}
 use Rattle.sheet.specs.Numbers.{read_lines}
 use Rattle.sheet.specs.declared.Sheet.{Sheet}
-use Rattle.opening.specs.Opened.{opened_of}
-use Rattle.opening.specs.declared.OpenAnswer.{OpenAnswer}
 use Rattle.looking.specs.Outcome.{Outcome, outcome}
 
 -- 9: frame number over 255
@@ -45,11 +43,15 @@ look_answer test vs needed n room =
     let k = first_of (look_lines test vs needed n room) in
     record { number = k; at = indexed k (first_fail test vs) }
 
+-- what a call that looks at them answers, in these terms
+abbrev pub look_left : {A : Type 0} → Result A Refusal → Answer
+look_left r = record { number = number_of r; at = index_of r }
+
+-- 12 at the index of a bad value, where there is one
+abbrev pub Pointed : {A : Type 0} → Option ℕ → Result A Refusal → Type 0
+Pointed None r = (number_of r ≡ 0) × (index_of r ≡ 0)
+Pointed (Some bad) r = (number_of r ≡ 12) × (index_of r ≡ bad)
+
 -- all that the call leaves: with number 0, `count` values were written and the buffer is `new`; else it is as it was
 abbrev pub looked : {A : Type 0} → ℕ → ℕ → ℕ → List A → List A → Outcome A
 looked n bad count new old = outcome n (given n count (indexed n bad)) (given n new old)
-
--- a call that opened its sheet: the number of its first lines, and the opened sheet where that is 0
-pub record Begun (s : List ℕ) (lines : List Line) (a : OpenAnswer) : Type 0 where
-  pub number : a.number ≡ first_of lines
-  pub opened : a.number ≡ 0 → a.opened ≡ opened_of (sheet_of s)

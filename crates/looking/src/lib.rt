@@ -1,80 +1,84 @@
 // What several calls ask first: the sheet, the frame number, the channel, the lengths, and that the values lent are bits or in range.
 #![tactic(auto)]
 
-ghost use Rattle.std.specs.Prelude.{◌≡◌, ◌||◌};
+ghost use Rattle.std.specs.Prelude.{◌≡◌, ◌-◌, ◌<◌, [], ◌∷◌, IfOk};
+ghost use Rattle.counters.specs.Lines.{line};
+ghost use Rattle.counters.specs.Refusals.{Refuses};
+ghost use Rattle.sheet.specs.Fields.{sheet_of};
 ghost use Rattle.joining.specs.Range.{in_range};
 ghost use Rattle.frame.specs.Bit.{is_bit};
-ghost use Rattle.looking.specs.Looking.{frame_lines, no_trch, not_long, pointed_at, look_answer, Begun};
+ghost use Rattle.opening.specs.Opened.{opened_of, Opens};
+ghost use Rattle.looking.specs.Looking.{frame_lines, no_trch, not_long, look_left, look_answer, pointed_at, Pointed};
 
-use counters::{Answer, FrameNumber, TrchNumber};
+use counters::refusal::Refusal;
+use counters::{FrameNumber, TrchNumber};
 use frame::checking::first_bad;
 use joining::checking::first_out;
-use opening::{OpenAnswer, open_sheet};
+use opening::{Opened, open_sheet};
 use sheet::Sheet;
 
 pub const LAST_FRAME: u32 = 255;
 
 // The sheet's own numbers, then 9.
-pub fn open_frame(bytes: &[u8], frame: FrameNumber) -> OpenAnswer
-    ensures { Begun bytes.now (frame_lines bytes.now frame.0) result }
+pub fn open_frame(bytes: &[u8], frame: FrameNumber) -> Result<Opened, Refusal>
+    ensures number { Refuses (frame_lines bytes.now frame.0) result }
+    ensures opened { IfOk result (λ o. o ≡ opened_of (sheet_of bytes.now)) }
+    ensures opens { IfOk result (λ o. Opens o) }
 {
-    let answer = open_sheet(bytes);
-    let number = answer.number;
-    let opened = answer.opened;
-    if number == 0 {
-        if frame.is_over(LAST_FRAME) {
-            return OpenAnswer { number: 9, opened };
-        }
+    let opened = open_sheet(bytes)?;
+    if frame.is_over(LAST_FRAME) {
+        return Err(Refusal::LateFrame);
     }
-    OpenAnswer { number, opened }
+    Ok(opened)
 }
 
-// Number 10: whether TrCH k, counted from 1, does not exist.
-pub fn absent(fields: Sheet, trch: TrchNumber) -> bool
-    ensures { result ≡ no_trch fields trch.0 }
+// Number 10: where TrCH k, counted from 1, stands among the channels.
+pub fn find_trch(fields: &Sheet, trch: TrchNumber) -> Result<usize, Refusal>
+    ensures number { Refuses (line (no_trch fields.now trch.0) 10 ∷ []) result }
+    ensures index { IfOk result (λ i. (i ≡ trch.0 - 1) × (i < fields.now.channels)) }
 {
-    !trch.is_among(fields.channels)
+    if trch.is_among(fields.channels) {
+        Ok(trch.index())
+    } else {
+        Err(Refusal::Missing)
+    }
 }
 
-// Number 11: whether the `have` values that are lent are not `needed`, or the buffer of n has not `room` places.
-fn misfits(have: usize, needed: u64, n: usize, room: u64) -> bool
-    ensures { result ≡ (not_long have needed || not_long n room) }
+// Number 11: whether `have` values are lent where `needed` are.
+pub fn check_length(have: usize, needed: u64) -> Result<(), Refusal>
+    ensures { Refuses (line (not_long have needed) 11 ∷ []) result }
 {
-    if have as u64 != needed {
-        return true;
+    if have as u64 == needed {
+        Ok(())
+    } else {
+        Err(Refusal::WrongLength)
     }
-    n as u64 != room
 }
 
-// Number 12 where `bad`, the index of the first bad value, is one of n.
-fn pointed(bad: usize, n: usize) -> Answer
-    ensures { result ≡ pointed_at bad n }
+// Number 12 where there is a first bad value.
+fn check_values(bad: Option<usize>) -> Result<(), Refusal>
+    ensures { Pointed bad result }
 {
-    if bad < n {
-        return Answer {
-            number: 12,
-            at: bad as u64,
-        };
+    match bad {
+        Some(at) => Err(Refusal::BadValue(at as u64)),
+        None => Ok(()),
     }
-    Answer { number: 0, at: 0 }
 }
 
 // Numbers 11 and 12: `needed` bits are lent, `room` places in a buffer of n.
-pub fn look(bits: &[u8], needed: u64, n: usize, room: u64) -> Answer
-    ensures { result ≡ look_answer is_bit bits.now needed n room }
+pub fn look(bits: &[u8], needed: u64, n: usize, room: u64) -> Result<(), Refusal>
+    ensures { look_left result ≡ look_answer is_bit bits.now needed n room }
 {
-    if misfits(bits.len(), needed, n, room) {
-        return Answer { number: 11, at: 0 };
-    }
-    pointed(first_bad(bits), bits.len())
+    check_length(bits.len(), needed)?;
+    check_length(n, room)?;
+    check_values(first_bad(bits))
 }
 
-// The same of soft values.
-pub fn look_soft(values: &[f32], needed: u64, n: usize, room: u64) -> Answer
-    ensures { result ≡ look_answer in_range values.now needed n room }
+// The same of soft values. With a parameter for the test both would be as long as they are.
+pub fn look_soft(values: &[f32], needed: u64, n: usize, room: u64) -> Result<(), Refusal>
+    ensures { look_left result ≡ look_answer in_range values.now needed n room }
 {
-    if misfits(values.len(), needed, n, room) {
-        return Answer { number: 11, at: 0 };
-    }
-    pointed(first_out(values), values.len())
+    check_length(values.len(), needed)?;
+    check_length(n, room)?;
+    check_values(first_out(values))
 }
