@@ -4,6 +4,8 @@ ghost use Rattle.matching.specs.Signed.{signed_by};
 ghost use Rattle.pattern.specs.Pattern.{Segment};
 ghost use Rattle.pattern.specs.Closed.{Stood};
 
+use matching::shares::Change;
+
 // A bit of the segment, counted from 0, and the number of its copy.
 #[derive(Clone, Copy)]
 pub struct Sent {
@@ -30,16 +32,16 @@ fn punctured_at(n: u64, w: u64, e: u64, m: u64, v: u64) -> Sent
     Sent { bit, copy: 0 }
 }
 
-// What stands at index v of the w bits sent of n, by d (its sign and its magnitude m) and the start e.
-pub fn sent_at(n: u64, w: u64, e: u64, less: bool, m: u64, v: u64) -> Sent
-    requires { Segment less m n w e × (v < w) }
-    ensures { Stood (signed_by less m) n e v result.bit result.copy }
+// What stands at index v of the w bits sent of n, by d and the start e.
+pub fn sent_at(n: u64, w: u64, e: u64, d: Change, v: u64) -> Sent
+    requires { Segment d.less d.size n w e × (v < w) }
+    ensures { Stood (signed_by d.less d.size) n e v result.bit result.copy }
 {
-    if m == 0 {
+    if d.size == 0 {
         return Sent { bit: v, copy: 0 };
     }
-    if less {
-        return punctured_at(n, w, e, m, v);
+    if d.less {
+        return punctured_at(n, w, e, d.size, v);
     }
-    repeated_at(n, w, e, m, v)
+    repeated_at(n, w, e, d.size, v)
 }

@@ -11,43 +11,51 @@ pub mod closed;
 pub mod runs;
 
 use crate::runs::{run_of, send_run};
+use matching::shares::Change;
 
 // Once the contents are read, whatever is still to be sent is a filler.
 fn fill(dst: &mut [u8], from: usize)
     requires { from ≤ length dst.old }
     ensures { dst.new ≡ take from dst.old ++ replicate (length dst.old - from) 0 }
 {
-    let mut k = from;
-    while k < dst.len() {
-        dst[k] = 0;
-        k += 1;
-    }
+    dst[from..].fill(0);
 }
 
-// d = 0: the bits as they are.
-fn copy_by(src: &[u8], n: usize, from: usize, step: usize, dst: &mut [u8])
-    requires { Strided step n (length src.now) × (length dst.old ≡ n) }
-    ensures { dst.new ≡ every 0 from step n src.now }
+// Bits side by side, and fillers behind them.
+fn copy_beside(bits: &[u8], dst: &mut [u8])
+    requires { length bits.now ≤ length dst.old }
+    ensures { dst.new ≡ bits.now ++ replicate (length dst.old - length bits.now) 0 }
 {
-    let mut k: usize = 0;
-    let mut j = from;
-    while j < src.len() {
-        dst[k] = src[j];
-        k += 1;
-        j += step;
-    }
-    fill(dst, k);
+    let count = bits.len();
+    dst[..count].copy_from_slice(bits);
+    fill(dst, count);
 }
 
-// Bits side by side are told apart, so that the compiler takes many of them a turn.
-fn copy(src: &[u8], n: usize, from: usize, step: usize, dst: &mut [u8])
-    requires { Strided step n (length src.now) × (length dst.old ≡ n) }
-    ensures { dst.new ≡ every 0 from step n src.now }
+// Bits with a step between them.
+fn copy_by(src: &[u8], from: usize, step: usize, dst: &mut [u8])
+    requires { Strided step (length dst.old) (length src.now) }
+    ensures { dst.new ≡ every 0 from step (length dst.old) src.now }
+{
+    let mut j = from;
+    for x in dst.iter_mut() {
+        if j < src.len() {
+            *x = src[j];
+            j += step;
+        } else {
+            *x = 0;
+        }
+    }
+}
+
+// d = 0: the bits as they are. Where they stand side by side the library copies many of them a turn.
+fn copy(src: &[u8], from: usize, step: usize, dst: &mut [u8])
+    requires { Strided step (length dst.old) (length src.now) }
+    ensures { dst.new ≡ every 0 from step (length dst.old) src.now }
 {
     if step == 1 {
-        copy_by(src, n, from, 1, dst);
+        copy_beside(&src[from.min(src.len())..], dst);
     } else {
-        copy_by(src, n, from, step, dst);
+        copy_by(src, from, step, dst);
     }
 }
 
@@ -113,7 +121,7 @@ fn repeat(src: &[u8], n: usize, from: usize, step: usize, dst: &mut [u8], start:
     fill(dst, k);
 }
 
-// The segment's bits to `dst`, by d (its sign and its magnitude m) and the start e.
+// The segment's bits to `dst`, by d and the start e.
 pub fn match_rate(
     src: &[u8],
     n: usize,
@@ -121,15 +129,15 @@ pub fn match_rate(
     step: usize,
     dst: &mut [u8],
     e: usize,
-    less: bool,
-    m: usize,
+    d: Change,
 )
-    requires { Segment less m n (length dst.old) e × Strided step n (length src.now) }
-    ensures { dst.new ≡ matched as_is (signed_by less m) n e (every 0 from step n src.now) }
+    requires { Segment d.less d.size n (length dst.old) e × Strided step n (length src.now) }
+    ensures { dst.new ≡ matched as_is (signed_by d.less d.size) n e (every 0 from step n src.now) }
 {
+    let m = d.size as usize;
     if m == 0 {
-        copy(src, n, from, step, dst);
-    } else if less {
+        copy(src, from, step, dst);
+    } else if d.less {
         puncture(src, n, from, step, dst, e, m);
     } else {
         repeat(src, n, from, step, dst, e, m);

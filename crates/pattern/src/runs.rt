@@ -10,16 +10,14 @@ pub fn run_of(p: usize, q: usize) -> usize
     requires { (2 * q < 2 ^ 64) × (p + q < 2 ^ 64) }
     ensures { result ≤ 16 }
 {
-    let mut run: usize = 0;
     let mut fall = 2 * q;
-    while run < 16 {
+    for run in 0..16 {
         if p < fall {
             return run;
         }
-        run += 1;
         fall += q;
     }
-    run
+    16
 }
 
 // Eight bits. All are read before the first is written, so that the compiler takes the eight at once.
@@ -27,22 +25,7 @@ fn copy_eight(src: &[u8], j: usize, dst: &mut [u8], k: usize)
     requires { (j + 7 < length src.now) × (k + 7 < length dst.old) }
     ensures { Copied src.now dst.old dst.new j k 8 }
 {
-    let a = src[j];
-    let b = src[j + 1];
-    let c = src[j + 2];
-    let d = src[j + 3];
-    let e = src[j + 4];
-    let f = src[j + 5];
-    let g = src[j + 6];
-    let h = src[j + 7];
-    dst[k] = a;
-    dst[k + 1] = b;
-    dst[k + 2] = c;
-    dst[k + 3] = d;
-    dst[k + 4] = e;
-    dst[k + 5] = f;
-    dst[k + 6] = g;
-    dst[k + 7] = h;
+    dst[k..k + 8].copy_from_slice(&src[j..j + 8]);
 }
 
 // So many bits, by eights: up to seven more are written, over which others are written later.
@@ -50,21 +33,9 @@ fn copy_run(src: &[u8], j: usize, dst: &mut [u8], k: usize, count: usize)
     requires { (j + count + 7 ≤ length src.now) × (k + count + 7 ≤ length dst.old) }
     ensures { Copied src.now dst.old dst.new j k count }
 {
-    let mut done: usize = 0;
-    while done < count {
+    for done in (0..count).step_by(8) {
         copy_eight(src, j + done, dst, k + done);
-        done += 8;
     }
-}
-
-// From each index below this one on there are more than `reach` of `long` elements.
-fn end_of(long: usize, reach: usize) -> usize
-    ensures { result ≡ long - reach }
-{
-    if reach < long {
-        return long - reach;
-    }
-    0
 }
 
 // Where the walk stands: e, the place of the next bit sent, and the index of the next bit read.
@@ -91,8 +62,8 @@ pub fn send_run(
 {
     let fall = run * q;
     let reach = run + 7;
-    let last = end_of(src.len(), reach);
-    let room = end_of(dst.len(), reach);
+    let last = src.len().saturating_sub(reach);
+    let room = dst.len().saturating_sub(reach);
     if run < 3 || e <= fall || last <= j || room <= k {
         return Stand { e, k, j };
     }

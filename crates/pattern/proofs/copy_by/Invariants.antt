@@ -1,12 +1,8 @@
-use mathlib.Core.Path.{◌≡◌}
-use Prim.Native.Nat.{◌+◌, ◌*◌, ◌-◌}
-use lib.ListN.{length, drop}
-use Rattle.laws.proofs.TodoLaws.{Todo}
-use Rattle.pattern.specs.Every.{every}
+use Rattle.std.proofs.Common.{◌≡◌, ℕ, ◌+◌, ◌*◌, ◌<◌, ◌≤◌, length, get_or}
 use Rattle.pattern.proofs.copy_by.Given as goal
 
-abbrev pub invariant-loop-j : goal.invariant-loop-j
-invariant-loop-j l = (l.j ≡ l.from + l.k * l.step) × Todo l.initial.dst (every 0 l.from l.step l.n l.src) l.dst l.k (drop l.k (every 0 l.from l.step l.n l.src))
-
-abbrev pub decreases-loop-j : goal.decreases-loop-j
-decreases-loop-j l = length l.src - l.j
+abbrev pub invariant-loop-x : goal.invariant-loop-x
+invariant-loop-x l =
+    (l.j < length l.src → l.j ≡ l.from + l.x-index * l.step)
+    × (length l.src ≤ l.j → length l.src ≤ l.from + l.x-index * l.step)
+    × ((k : ℕ) → k < l.x-index → get_or l.dst k 0 ≡ get_or l.src (l.from + k * l.step) 0)
