@@ -10,6 +10,7 @@ pub mod OnceLaws
 pub mod WholeLaws
 pub mod CopyLaws
 pub mod BoundLaws
+pub mod RangeLaws
 pub mod ValueLaws
 pub mod ExtremeLaws
 pub mod ZeroLaws

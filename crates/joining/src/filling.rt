@@ -7,6 +7,7 @@ ghost use Rattle.joining.specs.Joining.{clipped, value_of, home_of, Clips};
 use crate::Heard;
 use crate::clipping::clip;
 use crate::walking::hear_next;
+use matching::shares::Change;
 use pattern::runs::run_of;
 
 // The value that a bit gets of what was heard of it.
@@ -25,10 +26,8 @@ fn copy_values(values: &[f32], segment: &mut [f32])
     requires { length segment.old ≡ length values.now }
     ensures { segment.new ≡ map clipped values.now }
 {
-    let mut i: usize = 0;
-    while i < values.len() {
-        segment[i] = clip(values[i]);
-        i += 1;
+    for (i, x) in segment.iter_mut().enumerate() {
+        *x = clip(values[i]);
     }
 }
 
@@ -52,21 +51,19 @@ fn copy_run(values: &[f32], k: usize, segment: &mut [f32], i: usize, count: usiz
     requires { (k + count + 3 ≤ length values.now) × (i + count + 3 ≤ length segment.old) }
     ensures { Clips values.now segment.old segment.new k i count }
 {
-    let mut done: usize = 0;
-    while done < count {
+    for done in (0..count).step_by(4) {
         copy_four(values, k + done, segment, i + done);
-        done += 4;
     }
 }
 
 // d is not 0: each bit gets the sum of its next copies. After one that is dropped or repeated comes a run of bits with one copy each, copied by
 // fours where it is worth it, and at times one such bit more.
-fn fill(values: &[f32], segment: &mut [f32], start: usize, less: bool, m: usize)
-    requires { Segment less m (length segment.old) (length values.now) start × (0 < m) }
-    ensures { segment.new ≡ home_of (signed_by less m) (length segment.old) start values.now }
+fn fill(values: &[f32], segment: &mut [f32], start: usize, d: Change)
+    requires { Segment d.less d.size (length segment.old) (length values.now) start × (0 < d.size) }
+    ensures { segment.new ≡ home_of (signed_by d.less d.size) (length segment.old) start values.now }
 {
     let p = 2 * segment.len();
-    let q = 2 * m;
+    let q = 2 * d.size as usize;
     let run = run_of(p, q);
     let fall = run * q;
     let reach = run + 3;
@@ -74,7 +71,7 @@ fn fill(values: &[f32], segment: &mut [f32], start: usize, less: bool, m: usize)
     let mut k: usize = 0;
     let mut i: usize = 0;
     while i < segment.len() {
-        let t = hear_next(values, k, less, p, q, e);
+        let t = hear_next(values, k, d.less, p, q, e);
         let h = t.heard;
         segment[i] = clip(value(h));
         e = t.e;
@@ -95,14 +92,14 @@ fn fill(values: &[f32], segment: &mut [f32], start: usize, less: bool, m: usize)
     }
 }
 
-// The joined values of a segment, all of it, by d (its sign and its magnitude m) and the start e; `values` are those sent, in order.
-pub fn join_segment(values: &[f32], segment: &mut [f32], e: usize, less: bool, m: usize)
-    requires { Segment less m (length segment.old) (length values.now) e }
-    ensures { segment.new ≡ home_of (signed_by less m) (length segment.old) e values.now }
+// The joined values of a segment, all of it, by d and the start e; `values` are those sent, in order.
+pub fn join_segment(values: &[f32], segment: &mut [f32], e: usize, d: Change)
+    requires { Segment d.less d.size (length segment.old) (length values.now) e }
+    ensures { segment.new ≡ home_of (signed_by d.less d.size) (length segment.old) e values.now }
 {
-    if m == 0 {
+    if d.size == 0 {
         copy_values(values, segment);
     } else {
-        fill(values, segment, e, less, m);
+        fill(values, segment, e, d);
     }
 }

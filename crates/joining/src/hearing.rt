@@ -8,6 +8,7 @@ ghost use Rattle.joining.specs.Joining.{join_of};
 use crate::Heard;
 use crate::clipping::clip_heard;
 use crate::walking::hear_sent;
+use matching::shares::Change;
 
 // The copies of a bit stand at from, from + 1, ..: they are heard as by an e that goes from 1 by 1.
 pub fn hear_at(values: &[f32], from: usize, copies: usize) -> Heard
@@ -23,25 +24,26 @@ pub fn hear_at(values: &[f32], from: usize, copies: usize) -> Heard
 }
 
 // How many of the v values sent of a segment of n bits belong to the bits before `bit`, without a walk.
-fn sent_before(v: usize, n: usize, e: usize, less: bool, m: usize, bit: usize) -> usize
-    requires { Segment less m n v e × (bit ≤ n) }
-    ensures { result ≡ sent_before (signed_by less m) n e bit }
+fn sent_before(v: usize, n: usize, e: usize, d: Change, bit: usize) -> usize
+    requires { Segment d.less d.size n v e × (bit ≤ n) }
+    ensures { result ≡ sent_before (signed_by d.less d.size) n e bit }
 {
+    let m = d.size as usize;
     if m == 0 {
         return bit;
     }
     let p = 2 * n;
     let c = (2 * m * bit + p - e) / p;
-    if less { bit - c } else { bit + c }
+    if d.less { bit - c } else { bit + c }
 }
 
 // What was heard of one bit, from 0, of a segment of n bits; `values` are those sent of the segment, in order.
-pub fn hear_bit(values: &[f32], n: usize, e: usize, less: bool, m: usize, bit: usize) -> Heard
-    requires { Segment less m n (length values.now) e × (bit < n) }
-    ensures { result ≡ join_of (get_or (shared (signed_by less m) n e values.now) bit []) }
+pub fn hear_bit(values: &[f32], n: usize, e: usize, d: Change, bit: usize) -> Heard
+    requires { Segment d.less d.size n (length values.now) e × (bit < n) }
+    ensures { result ≡ join_of (get_or (shared (signed_by d.less d.size) n e values.now) bit []) }
 {
     let v = values.len();
-    let from = sent_before(v, n, e, less, m, bit);
-    let to = sent_before(v, n, e, less, m, bit + 1);
+    let from = sent_before(v, n, e, d, bit);
+    let to = sent_before(v, n, e, d, bit + 1);
     hear_at(values, from, to - from)
 }

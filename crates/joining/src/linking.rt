@@ -8,6 +8,7 @@ ghost use Rattle.joining.specs.Linked.{magnitude_of, link_of, with_value, with_h
 use crate::Heard;
 use crate::clipping::cap;
 use crate::walking::{hear_four, hear_sent};
+use matching::shares::Change;
 
 #[derive(Clone, Copy)]
 pub struct Link {
@@ -155,7 +156,7 @@ fn link_sent(values: &[f32], n: usize, start: usize, m: usize) -> Link
     let mut e = first.e;
     let mut k = first.next;
     let mut i: usize = 1;
-    let last = if 3 < n { n - 3 } else { 0 };
+    let last = n.saturating_sub(3);
     while i < last {
         let s = hear_four(values, k, p, q, e);
         let f = s.f;
@@ -168,24 +169,24 @@ fn link_sent(values: &[f32], n: usize, start: usize, m: usize) -> Link
         i += 4;
     }
     let mut l = w.whole();
-    while i < n {
+    for bit in i..n {
         let t = hear_sent(values, k, p, q, e);
         let h = t.heard;
-        l = l.with(h, i);
+        l = l.with(h, bit);
         e = t.e;
         k = t.next;
-        i += 1;
     }
     l
 }
 
-// The link record of a segment of n bits, by d (its sign and its magnitude m) and the start e; `values` are those sent of it, in order.
+// The link record of a segment of n bits, by d and the start e; `values` are those sent of it, in order.
 // Where no bit has two copies, each value was heard alone: as of so many bits, each sent once.
-pub fn link_segment(values: &[f32], n: usize, e: usize, less: bool, m: usize) -> Link
-    requires { Segment less m n (length values.now) e }
-    ensures { result ≡ link_of (heard_of (signed_by less m) n e values.now) }
+pub fn link_segment(values: &[f32], n: usize, e: usize, d: Change) -> Link
+    requires { Segment d.less d.size n (length values.now) e }
+    ensures { result ≡ link_of (heard_of (signed_by d.less d.size) n e values.now) }
 {
-    if less || m == 0 {
+    let m = d.size as usize;
+    if d.less || m == 0 {
         let l = link_sent(values, values.len(), 1, 0);
         return Link {
             least: l.least,

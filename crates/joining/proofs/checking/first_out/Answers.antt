@@ -1,34 +1,15 @@
-use mathlib.Core.Path.{sym, ◌∙◌}
-use native.Mathlib.Nat.{zero-add}
-use native.Mathlib.Omega.{arith}
-use borrow.Author.Tests.{eqb-true}
-use lib.ListN.{length}
-use lib.Ieee.{nan}
-use Rattle.laws.proofs.FirstFailLaws.{fail_on, fail_here, fail_none}
-use Rattle.joining.specs.Range.{in_range, first_out}
+use Rattle.std.proofs.Common.{rules, not}
+use Rattle.std.proofs.lemmas.Iterator.{YieldsList-from_slice}
+use Rattle.std.proofs.lemmas.Iterator.Search.{position_from_yields_List}
+use Rattle.joining.specs.Range.{in_range}
+use Rattle.joining.proofs.RangeLaws.{all_none, first_place}
 use Rattle.joining.proofs.checking.first_out.Goals as goal
 
 pub returns-then-all_in_range : goal.returns-then-all_in_range
-returns-then-all_in_range c =
-    let s = c.args.values.now in
-    sym (eqb-true (first_out s) (length s) (sym c.all_in_range.ensures ∙ c.if-all_in_range.true))
-
-pub loop-i-init : goal.loop-i-init
-loop-i-init c = (omega arith, sym (zero-add _))
-
-pub returns-then-not-in_range : goal.returns-then-not-in_range
-returns-then-not-in_range c =
-    let l = c.loop-i in
-    let s = c.args.values.now in
-    fail_here in_range s l.i nan (omega arith) (sym c.in_range.ensures ∙ c.if-not-in_range.true) l.invariant.1
-
-pub loop-i-preserved : goal.loop-i-preserved
-loop-i-preserved c =
-    let l = c.loop-i in
-    let s = c.args.values.now in
-    (omega arith, fail_on in_range s l.i nan (omega arith) (sym c.in_range.ensures ∙ c.if-not-in_range.false) l.invariant.1)
+returns-then-all_in_range c = all_none in_range c.args.values.now cc
 
 pub returns : goal.returns
 returns c =
-    let l = c.loop-i in
-    fail_none in_range c.args.values.now l.i (omega arith) l.invariant.1
+    let v = c.args.values.now in
+    let p = c.position in
+    first_place in_range p.result v (position_from_yields_List (λ x. not (in_range x)) _ _ p.result p.ensures.ran (YieldsList-from_slice v cc) (λ x b q k. search rules))

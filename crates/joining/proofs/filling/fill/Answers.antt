@@ -16,12 +16,12 @@ pub run_of-run-requires : goal.run_of-run-requires
 run_of-run-requires c = let s = c.requires.0 in (omega (arith, s.most), omega (arith, s.few, s.most))
 
 pub overflow_mul-fall : goal.overflow_mul-fall
-overflow_mul-fall c = omega (arith, mul-le-mul_right (2 * c.args.m) c.run_of-run.ensures, c.requires.0.most)
+overflow_mul-fall c = omega (arith, mul-le-mul_right (2 * c.args.d.size) c.run_of-run.ensures, c.requires.0.most)
 
 pub loop-i-init : goal.loop-i-init
 loop-i-init c =
     let a = c.args in
-    fill_start a.less a.m a.start a.values.now a.segment.now c.requires.0 c.requires.1
+    fill_start a.d.less a.d.size a.start a.values.now a.segment.now c.requires.0 c.requires.1
 
 pub hear_next-t-requires : goal.hear_next-t-requires
 hear_next-t-requires c =

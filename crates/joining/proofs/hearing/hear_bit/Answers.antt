@@ -8,10 +8,10 @@ use Rattle.joining.proofs.hearing.hear_bit.Goals as goal
 -- where the bit's values stand
 alone : (c : After-sent_before-to)
     → let a = c.args in
-    Alone (signed_by a.less a.m) a.n a.e a.bit a.values.now c.sent_before-from.result c.sent_before-to.result
+    Alone (signed_by a.d.less a.d.size) a.n a.e a.bit a.values.now c.sent_before-from.result c.sent_before-to.result
 alone c =
     let a = c.args in
-    heard_alone (signed_by a.less a.m) a.n a.e a.bit a.values.now c.requires.0.rates c.requires.1
+    heard_alone (signed_by a.d.less a.d.size) a.n a.e a.bit a.values.now c.requires.0.rates c.requires.1
     c.sent_before-from.ensures c.sent_before-to.ensures
 
 pub overflow_sub-to : goal.overflow_sub-to

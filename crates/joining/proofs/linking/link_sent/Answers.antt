@@ -20,7 +20,6 @@ use Rattle.joining.proofs.PlaceLaws.{Place, left, place-start, place-room, place
 use Rattle.joining.proofs.LinkLaws.{link_none, Surveying, survey_start, survey_turn, survey_end}
 use Rattle.joining.proofs.LaneLaws.{Voiced, voiced, none_dealt, deal_start, deal_a, deal_b, deal_c, deal_d}
 use Rattle.joining.proofs.linking.link_sent.Invariants.{Held, InLanes}
-use Rattle.joining.proofs.linking.link_sent.Goals.{then-n-gt3, else-n-gt3}
 use Rattle.joining.proofs.linking.link_sent.Goals as goal
 
 record Next (m n : ℕ) (vs : List Float) (e k i e' k' : ℕ) (h : Heard) : Type 0 where
@@ -99,7 +98,7 @@ loop-i-init c =
     let x = hears p some h.ensures in
     let w = turn (p, s) some h.ensures c.with.ensures in
     let d = deal_start new.result (clipped_of h.result.heard) (ap (λ (l : Link). l.punctured) (new.ensures ∙ link_none)) c.with.ensures x.voice c.new-w.ensures w.1 in
-    (x.place, d, elim c.if-n-gt3.branch [ then-n-gt3 w ↦ omega arith | else-n-gt3 w ↦ omega arith ])
+    (x.place, d, omega arith)
 
 pub hear_four-s-requires : goal.hear_four-s-requires
 hear_four-s-requires c = let l = c.loop-i in asks-four l.invariant.0 c.loop-i-test.true l.invariant.2
@@ -116,7 +115,7 @@ pub loop-i-smaller : goal.loop-i-smaller
 loop-i-smaller c =
     let l = c.loop-i in
     let n = c.args.n in
-    (there l.i c.if-n-gt3.last n c.loop-i-test.true l.invariant.2).4
+    (there l.i c.saturating_sub-last.result n c.loop-i-test.true l.invariant.2).4
 
 pub loop-i-preserved : goal.loop-i-preserved
 loop-i-preserved c =
@@ -125,7 +124,7 @@ loop-i-preserved c =
     let v = a.values.now in
     let all = heard_of (signed_by false a.m) a.n a.start v in
     let h = c.hear_four-s in
-    let last = c.if-n-gt3.last in
+    let last = c.saturating_sub-last.result in
     let b = there l.i last a.n c.loop-i-test.true l.invariant.2 in
     let x = hears l.invariant.0 b.0 h.ensures.first in
     let y = hears x.place b.1 h.ensures.second in
@@ -140,23 +139,23 @@ loop-i-preserved c =
     let four : l.i + 1 + 1 + 1 + 1 ≡ l.i + 4 = omega arith in
     subst (InLanes a.m a.n v all last w.a w.b w.c w.d h.result.e h.result.next) four (t.place, dd, l.invariant.2)
 
-pub loop-i-2-init : goal.loop-i-2-init
-loop-i-2-init c =
+pub loop-bit-init : goal.loop-bit-init
+loop-bit-init c =
     let l = c.loop-i in
     (l.invariant.0, rw c.whole-l.ensures l.invariant.1.whole)
 
 pub hear_sent-t-requires : goal.hear_sent-t-requires
 hear_sent-t-requires c =
-    let p = c.loop-i-2.invariant.0 in
+    let p = c.loop-bit.invariant.0 in
     asks p (omega arith)
 
 pub with-l-requires : goal.with-l-requires
-with-l-requires c = let l = c.loop-i-2 in omega (arith, l.invariant.1.counted, l.invariant.0.few)
+with-l-requires c = let l = c.loop-bit in omega (arith, l.invariant.1.counted, l.invariant.0.few)
 
-pub loop-i-2-preserved : goal.loop-i-2-preserved
-loop-i-2-preserved c =
-    let l = c.loop-i-2 in
+pub loop-bit-preserved : goal.loop-bit-preserved
+loop-bit-preserved c =
+    let l = c.loop-bit in
     turn l.invariant (omega arith) c.hear_sent-t.ensures c.with-l.ensures
 
 pub returns : goal.returns
-returns c = done c.loop-i-2.invariant (omega arith)
+returns c = done c.loop-bit.invariant (omega arith)

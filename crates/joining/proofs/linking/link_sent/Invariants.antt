@@ -25,8 +25,5 @@ invariant-loop-i l = InLanes l.m l.n l.values (heard_of (signed_by false l.m) l.
 abbrev pub decreases-loop-i : goal.decreases-loop-i
 decreases-loop-i l = l.n - l.i
 
-abbrev pub invariant-loop-i-2 : goal.invariant-loop-i-2
-invariant-loop-i-2 l = Held l.m l.n l.values (heard_of (signed_by false l.m) l.n l.start l.values) l.l l.e l.k l.i
-
-abbrev pub decreases-loop-i-2 : goal.decreases-loop-i-2
-decreases-loop-i-2 l = l.n - l.i
+abbrev pub invariant-loop-bit : goal.invariant-loop-bit
+invariant-loop-bit l = Held l.m l.n l.values (heard_of (signed_by false l.m) l.n l.start l.values) l.l l.e l.k l.bit
