@@ -5,21 +5,11 @@ ghost use Rattle.std.specs.Prelude.{◌≡◌, ℕ, ◌+◌, ◌*◌, ◌%◌, �
 ghost use Rattle.std.proofs.Math.Seq.{paste};
 ghost use Rattle.bits.specs.Bits.{bits_at, val, field, packed, bit_of, Two};
 
-// A byte as a number to calculate with.
-fn wide(x: u8) -> u64
-    ensures { (result ≡ x) × (result < 256) }
-{
-    x as u64
-}
-
 // Byte k, 0 past the end.
 fn byte_at(s: &[u8], k: usize) -> u64
     ensures { (result ≡ get_or s.now k 0) × (result < 256) }
 {
-    if k < s.len() {
-        return wide(s[k]);
-    }
-    0
+    s.get(k).map_or(0, |x| u64::from(*x))
 }
 
 // Bytes k and k + 1 as one number. Within the bytes one test serves both.
@@ -28,7 +18,7 @@ fn two_at(s: &[u8], k: usize) -> u64
     ensures { Two s.now k result }
 {
     if k + 1 < s.len() {
-        return wide(s[k]) * 256 + wide(s[k + 1]);
+        return u64::from(s[k]) * 256 + u64::from(s[k + 1]);
     }
     byte_at(s, k) * 256
 }
@@ -39,8 +29,8 @@ pub fn read_field(s: &[u8], at: usize, n: usize) -> u64
     ensures { (result ≡ bits_at s.now at n) × (result < 2 ^ n) }
 {
     let two = two_at(s, at / 8);
-    let behind = (16 - at % 8 - n) as u64;
-    (two >> behind) % (1u64 << (n as u64))
+    let behind = 16 - at % 8 - n;
+    (two >> behind) % (1 << n)
 }
 
 // The field of eight bits that byte k is: two bytes are not asked for.
@@ -55,11 +45,8 @@ pub fn put_field(bs: &mut [u8], at: usize, n: usize, v: u64)
     requires { (n ≤ 14) × (at + n ≤ length bs.old) }
     ensures { bs.new ≡ paste bs.old at (field n v) n }
 {
-    let mut i: usize = 0;
-    while i < n {
-        let j = (n - 1 - i) as u64;
-        bs[at + i] = ((v >> j) % 2) as u8;
-        i += 1;
+    for i in 0..n {
+        bs[at + i] = ((v >> (n - 1 - i)) % 2) as u8;
     }
 }
 
@@ -69,10 +56,8 @@ fn byte(bs: &[u8], at: usize) -> u8
     ensures { result ≡ val (bit_of bs.now) at 8 }
 {
     let mut v: u8 = 0;
-    let mut i: usize = 0;
-    while i < 8 {
+    for i in 0..8 {
         v = v * 2 + bs[at + i];
-        i += 1;
     }
     v
 }
@@ -82,9 +67,7 @@ pub fn pack(bs: &[u8], out: &mut [u8])
     requires { (8 * length out.old ≤ length bs.now) × ((i : ℕ) → get_or bs.now i 0 < 2) }
     ensures { out.new ≡ packed (bit_of bs.now) (length out.old) }
 {
-    let mut k: usize = 0;
-    while k < out.len() {
-        out[k] = byte(bs, 8 * k);
-        k += 1;
+    for (k, x) in out.iter_mut().enumerate() {
+        *x = byte(bs, 8 * k);
     }
 }

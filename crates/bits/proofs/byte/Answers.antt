@@ -1,4 +1,4 @@
-use mathlib.Core.Path.{◌≡◌, refl, ap, ◌∙◌}
+use mathlib.Core.Path.{refl, ap, ◌∙◌}
 use Prim.Native.Nat.{ℕ, ◌+◌, ◌*◌, ◌<◌}
 use native.Mathlib.Omega.{arith}
 use Rattle.bits.specs.Bits.{val, bit_of}
@@ -11,7 +11,7 @@ use Rattle.bits.proofs.byte.Goals as goal
 
 pub loop-i-init : goal.loop-i-init
 unfolding val
-loop-i-init c = (omega arith, refl)
+loop-i-init c = refl
 
 small : (c : At-loop-i) → c.loop-i.i < 8 → c.loop-i.v < 128
 small c l =
@@ -34,9 +34,4 @@ pub loop-i-preserved : goal.loop-i-preserved
 loop-i-preserved c =
     let a = c.args in
     let l = c.loop-i in
-    (omega arith, ap (λ (x : ℕ). x * 2 + get_or a.bs.now (a.at + l.i) 0) l.invariant.1 ∙ val-more (bit_of a.bs.now) a.at l.i)
-
-pub returns : goal.returns
-returns c =
-    let e : c.loop-i.i ≡ 8 = omega arith in
-    c.loop-i.invariant.1 ∙ ap (val _ _) e
+    ap (λ (x : ℕ). x * 2 + get_or a.bs.now (a.at + l.i) 0) l.invariant ∙ val-more (bit_of a.bs.now) a.at l.i
