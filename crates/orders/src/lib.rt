@@ -21,22 +21,16 @@ pub const ORDER: [u8; 30] = [
     7, 22, 27, 17,
 ];
 
-fn entry(tti: usize, n: usize) -> u8
-    requires { (tti ≤ most_tti) × (n < most_frames) }
-    ensures { (result ≡ column_at tti n) × (result < most_frames) }
-{
-    ORDERS[tti][n]
-}
-
 // P(n): entry n of the TTI's row.
 pub fn column(tti: usize, n: usize) -> usize
     requires { (tti ≤ most_tti) × (n < most_frames) }
     ensures { (result ≡ column_at tti n) × (result < most_frames) }
 {
-    entry(tti, n) as usize
+    usize::from(ORDERS[tti][n])
 }
 
 // The TTI's row as a local: an index into the constant would lay the whole table down anew at each use in a loop.
+#[tactic(auto, unfolding(crate::specs::Orders::orders))]
 pub fn row(tti: usize) -> [u8; FRAMES]
     requires { tti ≤ most_tti }
     ensures { result ≡ get_or orders tti [] }
@@ -45,6 +39,7 @@ pub fn row(tti: usize) -> [u8; FRAMES]
 }
 
 // Step 8's order as a local, for the same reason.
+#[tactic(auto, unfolding(crate::specs::Orders::order))]
 pub fn columns() -> [u8; 30]
     ensures { result ≡ order }
 {

@@ -1,8 +1,8 @@
 use mathlib.Core.Path.{refl}
 use Rattle.orders.specs.Orders.{orders, column_at}
 use Rattle.orders.proofs.OrderLaws.{column-small}
-use Rattle.orders.proofs.entry.Goals as goal
+use Rattle.orders.proofs.column.Goals as goal
 
 pub returns : goal.returns
 unfolding column_at orders
-returns c = (refl, column-small c.args.tti c.args.n c.requires.0 c.requires.1)
+returns c = rw c.from.ensures (refl, column-small c.args.tti c.args.n c.requires.0 c.requires.1)
