@@ -2,6 +2,7 @@ pub mod SumLaws
 pub mod TableLaws
 pub mod TestLaws
 pub mod LaidLaws
+pub mod MadeLaws
 pub mod StoreLaws
 pub mod LeastLaws
 pub mod JoinedLaws

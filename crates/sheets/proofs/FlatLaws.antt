@@ -1,24 +1,17 @@
 -- Laws of the row of 549 numbers: laid in parts, taken out in parts, and there and back.
 use mathlib.Core.Path.{◌≡◌, refl, sym, ap, ap₂, ◌∙◌}
 use mathlib.Core.List.{List, [], ◌++◌, append_assoc}
-use Prim.Native.Nat.{ℕ, ◌+◌, ◌*◌, ◌/◌, ◌%◌, ◌≤◌, ◌<◌}
+use Prim.Native.Nat.{ℕ, ◌+◌, ◌*◌, ◌/◌, ◌%◌}
 use native.Mathlib.Nat.{add-zero}
 use native.Mathlib.Omega.{arith}
-use lib.ListN.{length, get_or, take, drop, length-append, length-drop}
-use lib.Seq.{ext_get_or, get_or-take, get_or-drop, length-take-le, take_at, drop-append-add, get_or-append-add}
+use lib.ListN.{length, get_or, take, drop, length-append}
+use lib.Seq.{take_at, drop-append-add, get_or-append-add}
 use Rattle.laws.proofs.TableLaws.{table-length, table_at, filled-all, up_to-below}
 use Rattle.laws.proofs.LaidLaws.{laid_none, laid_more, laid-all}
 use Rattle.sheet.specs.Counts.{most_channels, most_slots, most_codes, most_capacities, most_paired, most_logs}
 use Rattle.sheet.specs.Fields.{log_in}
 use Rattle.sheet.specs.declared.Sheet.{Sheet}
 use Rattle.sheets.specs.Flat.{tti_from, encoded_from, ratio_from, phchs_from, caps_from, logs_from, flat_count, flat_head, flat_logs, logs_taken, flat_of, sheet_from, LaidAt}
-
--- a part that was copied out place by place
-pub part_out : (l out : List ℕ) (at n : ℕ) → at + n ≤ length l → length out ≡ n → ((j : ℕ) → j < n → get_or out j 0 ≡ get_or l (at + j) 0)
-    → out ≡ take n (drop at l)
-part_out l out at n room e same =
-    ext_get_or 0 _ _ (e ∙ sym (length-take-le n (drop at l) (omega (arith, length-drop at l))))
-    (λ j b. let h : j < n = omega arith in same j h ∙ sym (get_or-take n (drop at l) j 0 h ∙ get_or-drop at l j 0))
 
 logs_long : (logs : List ℕ) → length (flat_logs logs) ≡ most_capacities
 logs_long logs = table-length _ 0 most_capacities

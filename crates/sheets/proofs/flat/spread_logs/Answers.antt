@@ -1,26 +1,11 @@
-use native.Mathlib.Omega.{arith}
-use mathlib.Core.Path.{◌≡◌, refl, ◌∙◌}
-use Prim.Native.Nat.{ℕ, ◌/◌, ◌%◌}
-use Rattle.laws.specs.Tables.{table}
-use Rattle.laws.proofs.TableLaws.{table-set, filled-whole}
+use Prim.Native.Nat.{◌/◌, ◌%◌}
+use Rattle.std.proofs.Common.{rules}
 use Rattle.sheet.specs.Counts.{most_codes, most_capacities}
 use Rattle.sheet.specs.Fields.{log_in}
+use Rattle.laws.proofs.MadeLaws.{made-table}
 use Rattle.sheets.proofs.flat.spread_logs.Goals as goal
-
-pub loop-m-init : goal.loop-m-init
-unfolding table
-loop-m-init c = (omega arith, refl)
-
-pub loop-m-preserved : goal.loop-m-preserved
-loop-m-preserved c =
-    let l = c.loop-m in
-    let f : ℕ → ℕ = λ j. log_in c.args.logs (j / most_codes) (j % most_codes) in (
-      omega arith,
-      rw (l.invariant.1, c.log_at.ensures) (table-set f most_capacities l.m (omega arith)),
-    )
 
 pub returns : goal.returns
 returns c =
-    let l = c.loop-m in
-    let e : l.m ≡ most_capacities = omega arith in
-    l.invariant.1 ∙ filled-whole _ most_capacities l.m e
+    made-table _ _ (λ m. log_in c.args.logs.now (m / most_codes) (m % most_codes)) (λ m y q h. search rules) c.from_fn.result most_capacities 0
+    c.from_fn.ensures.items
