@@ -1,42 +1,60 @@
 -- Text that is put behind text, and the digits of a number.
-use mathlib.Core.Path.{◌≡◌, sym, ap, ◌∙◌, subst}
+use mathlib.Core.Path.{◌≡◌, refl, sym, ap, ap₂, ◌∙◌, subst}
 use mathlib.Core.Bool.{Bool, cond}
-use mathlib.Core.List.{List, [], ◌∷◌, ◌++◌}
+use mathlib.Core.List.{List, [], ◌++◌}
 use Prim.Native.Nat.{ℕ, zero, suc, ◌+◌, ◌-◌, ◌^◌, ◌≤◌, ◌<◌}
-use native.Mathlib.Nat.{sub-zero, zero-sub, suc-sub-suc, pow-le-pow_right, le_trans}
+use native.Mathlib.Nat.{sub-zero, pow-le-pow_right, le_trans}
 use native.Mathlib.Numerals.{add-one}
 use native.Mathlib.Omega.{arith}
 use native.Mathlib.Decide.{dec_lt}
 use borrow.Author.Tests.{lt-ltb, le-ltb}
 use lib.Dec.{ltb, lit<}
 use lib.ListN.{length, drop, replicate, length-append}
-use lib.Seq.{paste, length-paste}
-use Rattle.laws.proofs.LaidLaws.{laid_none, laid_more, laid-long}
+use lib.Seq.{paste, take-append_seam, take-length, drop-append-add}
+use borrow.Rule.Slice.PartMut.{put_mid}
+use Rattle.std.proofs.lemmas.List.{drop-replicate}
+use Rattle.std.proofs.lemmas.Slice.{put_mid-paste}
 use Rattle.io.specs.Digits.{last_digits, IsDigitCount}
 use Rattle.counters.proofs.LineLaws.{given_yes, given_no}
-use Rattle.sheet.specs.Fields.{sheet_of, encoded_of}
-use Rattle.sheet.specs.Sizes.{frames_of, size_of, capacity_all}
+use Rattle.sheet.specs.Fields.{sheet_of}
 use Rattle.sheet.specs.Numbers.{read_number}
 use Rattle.sheet.specs.declared.Sheet.{Sheet}
-use Rattle.matching.specs.Shares.{share_of}
-use Rattle.listing.specs.Listing.{room, least_from, decimal_of, Lists, lines_to, head_line, with_line, refusal, listing_of, text_of, followed}
-use Rattle.listing.specs.Ascii.{ascii}
+use Rattle.listing.specs.Listing.{room, least_from, decimal_of, lines_to, with_line, refusal, listing_of, text_of, Pushed}
 use Rattle.listing.specs.declared.Text.{Text}
 
+-- the texts, over any length, since a room of zeros would be computed
+none_zeros : (n : ℕ) → ◌≡◌ {A = Text} (record { bytes = replicate n 0; len = 0 }) (record { bytes = replicate (n - 0) 0; len = 0 })
+none_zeros n = rw sub-zero refl
+
+pub text-none : ◌≡◌ {A = Text} (record { bytes = replicate room 0; len = 0 }) (text_of [])
+unfolding text_of
+text-none = none_zeros room
+
+pushed_zeros : (n : ℕ) (l t : List ℕ) → paste (l ++ replicate (n - length l) 0) (length l) t (length t) ≡ (l ++ t) ++ replicate (n - length (l ++ t)) 0
+pushed_zeros n l t =
+    let z = replicate (n - length l) 0 in
+    ap₂ (λ (x y : List ℕ). (x ++ y) ++ drop (length l + length t) (l ++ z)) (take-append_seam l z) (take-length t)
+    ∙ ap (λ (x : List ℕ). (l ++ t) ++ x)
+    (drop-append-add l z (length t)
+    ∙ drop-replicate (length t) (n - length l) 0
+    ∙ ap (λ (x : ℕ). replicate x 0) (omega (arith, length-append l t)))
+
 -- a text put behind a text
-pub lists_none : (o : List ℕ) → length o ≡ room → Lists o o 0 []
-lists_none o e = record { long = e; laid = laid_none o }
+text-pushed : (o : Text) (l t : List ℕ) → o ≡ text_of l
+    → ◌≡◌ {A = Text} (record { bytes = paste o.bytes o.len t (length t); len = o.len + length t }) (text_of (l ++ t))
+unfolding text_of
+text-pushed o l t e =
+    rw e
+    (ap₂ (λ (x : List ℕ) (y : ℕ). record { bytes = x; len = y }) (pushed_zeros room l t) (sym (length-append l t)))
 
-pub lists_long : (o out : List ℕ) (at : ℕ) (l : List ℕ) → at ≤ room → Lists o out at l → length out ≡ room
-lists_long o out at l b h = laid-long o out at l h.laid (omega (arith, h.long)) ∙ h.long
-
-pub pasted_long : (out : List ℕ) (at : ℕ) (t : List ℕ) {out' : List ℕ} → out' ≡ paste out at t (length t) → at + length t ≤ room → length out ≡ room
-    → length out' ≡ room
-pasted_long out at t p b e = ap length p ∙ length-paste out at t (length t) (omega arith) (omega arith) ∙ e
-
-pub lists_more : (o out : List ℕ) (at : ℕ) (l t : List ℕ) → Lists o out at l → {r : ℕ} {out' : List ℕ} → r ≡ at + length t
-    → out' ≡ paste out at t (length t) → Lists o out' r (l ++ t)
-lists_more o out at l t h e p = record { long = h.long; laid = laid_more o out at l t h.laid e p }
+pub pushed : (o : Text) (t : List ℕ) {y : List ℕ} → y ≡ t
+    → Pushed o (record { bytes = put_mid o.len (o.len + length t - o.len) o.bytes y; len = o.len + length t }) t
+pushed o t q =
+    let k : length t ≡ o.len + length t - o.len = omega arith in
+    record {
+      text = λ l e. rw (put_mid-paste o.len (o.len + length t - o.len) o.bytes _ t (length t) q k refl) (text-pushed o l t e);
+      len = refl;
+    }
 
 -- the fewest digits are the first that suffice
 module _ (n k : ℕ) (top : n < 10 ^ k) (low : 1 < k → 10 ^ (k - 1) ≤ n) where
@@ -76,28 +94,9 @@ few_digits n k f b = side (dec_lt 20 k)
         absurd (omega arith)
 
 -- the lines of a sheet
-module _ (sh : Sheet) where
-  pub line_made : (i : ℕ) (o out : List ℕ) (at : ℕ) (l : List ℕ) (f e n v : ℕ) → f ≡ frames_of sh i → e ≡ encoded_of sh i → n ≡ size_of sh i
-      → v ≡ share_of sh i
-      → Lists o out at
-      (followed l (decimal_of (i + 1) ∷ ascii " F " ∷ decimal_of f ∷ ascii " E " ∷ decimal_of e ∷ ascii " N " ∷ decimal_of n ∷ ascii " V " ∷ decimal_of v ∷ ascii "\n" ∷ []))
-      → Lists o out at (with_line sh i l)
-  unfolding with_line
-  line_made i o out at l f e n v pf pe pn pv h = rw (pf, pe, pn, pv) at h
-
-  pub head_made : (o out : List ℕ) (at c t d : ℕ) → c ≡ sh.channels → t ≡ sh.slots → d ≡ capacity_all sh
-      → Lists o out at (followed [] (ascii "channels " ∷ decimal_of c ∷ ascii " slots " ∷ decimal_of t ∷ ascii " capacity " ∷ decimal_of d ∷ ascii "\n" ∷ []))
-      → Lists o out at (head_line sh)
-  unfolding head_line
-  head_made o out at c t d pc pt pd h = rw (pc, pt, pd) at h
-
-  pub lines_more : (i : ℕ) → with_line sh i (lines_to sh i) ≡ lines_to sh (i + 1)
-  unfolding lines_to
-  lines_more i = rw (add-one i)
-
-pub refusal-made : (n : ℕ) (o out : List ℕ) (at : ℕ) → Lists o out at (followed [] (ascii "refused " ∷ decimal_of n ∷ ascii "\n" ∷ [])) → Lists o out at (refusal n)
-unfolding refusal
-refusal-made n o out at h = h
+pub lines_more : (sh : Sheet) (i : ℕ) → with_line sh i (lines_to sh i) ≡ lines_to sh (i + 1)
+unfolding lines_to
+lines_more sh i = rw (add-one i)
 
 -- the listing of an accepted sheet and of a refused one
 module _ (s : List ℕ) where
@@ -108,21 +107,6 @@ module _ (s : List ℕ) where
   pub listing_no : (read_number s ≡ 0 → ⊥) → refusal (read_number s) ≡ listing_of s
   unfolding listing_of
   listing_no z = sym (given_no (read_number s) (lines_to (sheet_of s) (sheet_of s).channels) (refusal (read_number s)) z)
-
--- zeros past a text
-drop_zeros : (n at : ℕ) → ◌≡◌ {A = List ℕ} (drop at (replicate n 0)) (replicate (n - at) 0)
-drop_zeros n zero = rw sub-zero
-drop_zeros zero (suc at) = rw zero-sub
-drop_zeros (suc n) (suc at) = rw suc-sub-suc (drop_zeros n at)
-
--- over any length, since a room of zeros would be computed
-zeros_past : (n : ℕ) {out : List ℕ} {at : ℕ} (l : List ℕ) → at ≡ length l → out ≡ l ++ drop at (replicate n 0)
-    → ◌≡◌ {A = Text} (record { bytes = out; len = at }) (record { bytes = l ++ replicate (n - length l) 0; len = length l })
-zeros_past n l e p = rw (p, e, drop_zeros)
-
-pub text-made : {out : List ℕ} {at : ℕ} (l : List ℕ) → Lists (replicate room 0) out at l → ◌≡◌ {A = Text} (record { bytes = out; len = at }) (text_of l)
-unfolding text_of
-text-made l h = zeros_past room l h.laid.end h.laid.text
 
 -- a text is no longer than the bytes it stands in
 pub text-holds : (l : List ℕ) {r : Text} → r ≡ text_of l → r.len ≤ length r.bytes

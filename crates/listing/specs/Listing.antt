@@ -1,7 +1,6 @@
 -- What the sheet lister prints, byte by byte.
 use Rattle.std.specs.Prelude.{◌≡◌, cond, List, [], ◌∷◌, ◌++◌, ℕ, zero, suc, ◌+◌, ◌-◌, ◌*◌, ◌^◌, ltb, length, replicate}
 use Rattle.io.specs.Digits.{last_digits}
-use Rattle.laws.specs.Laid.{Laid}
 use Rattle.counters.specs.Lines.{given}
 use Rattle.sheet.specs.Counts.{most_channels}
 use Rattle.sheet.specs.Fields.{sheet_of, encoded_of}
@@ -64,7 +63,7 @@ listing_of s = given (read_answer s).number (lines_to (sheet_of s) (sheet_of s).
 unfoldable pub text_of : List ℕ → Text
 text_of l = record { bytes = l ++ replicate (room - length l) 0; len = length l }
 
--- a buffer of that room that was o begins with the text l, which ends at `at`, and is as it was from there on
-pub record Lists (o out : List ℕ) (at : ℕ) (l : List ℕ) : Type 0 where
-  pub long : length o ≡ room
-  pub laid : Laid o out at l
+-- where `old` is a text, `new` is that text and t behind it
+pub record Pushed (old new : Text) (t : List ℕ) : Type 0 where
+  pub text : (l : List ℕ) → old ≡ text_of l → new ≡ text_of (l ++ t)
+  pub len : new.len ≡ old.len + length t

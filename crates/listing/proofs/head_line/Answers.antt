@@ -1,18 +1,16 @@
 use native.Mathlib.Omega.{arith}
 use mathlib.Core.List.{[]}
-use Rattle.listing.specs.Ascii.{ascii}
-use Rattle.listing.proofs.ListLaws.{lists_none, lists_more, head_made}
+use Rattle.listing.specs.Listing.{head_line}
 use Rattle.listing.proofs.head_line.Goals as goal
 
 pub returns : goal.returns
+unfolding head_line
 returns c =
-    let p = c.put in
-    let o = c.args.out.now in
-    let d = c.capacity-d in
-    let h1 = c.put_pair-a.ensures.0 o [] (lists_none o c.requires.0) in
-    let h2 = c.put_pair-b.ensures.0 o _ h1 in
-    let h3 = c.put_pair-c.ensures.0 o _ h2 in (
-      head_made c.args.opened.fields o p.new.out p.result _ _ d.result c.wide.ensures.0 c.wide-2.ensures.0 d.ensures.0
-          (lists_more o _ _ _ (ascii "\n") h3 p.ensures.0 p.ensures.1),
-      omega (arith, c.put_pair-a.ensures.1, c.put_pair-b.ensures.1, c.put_pair-c.ensures.1, p.ensures.0),
+    let n = c.new-text.ensures in
+    let p = c.push_pair.ensures in
+    let q = c.push_pair-2.ensures in
+    let r = c.push_pair-3.ensures in
+    let e = c.push.ensures in (
+      rw (c.from.ensures, c.from-2.ensures, c.capacity.ensures.0) at (e.text _ (r.0 _ (q.0 _ (p.0 [] n.0)))),
+      omega (arith, n.1, p.1, q.1, r.1, e.len),
     )
