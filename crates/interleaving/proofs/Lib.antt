@@ -6,4 +6,5 @@ pub mod SecondLaws
 pub mod FinishWalk
 pub mod SecondWalk
 pub mod WholeLaws
+pub mod DirectionLaws
 pub mod Example

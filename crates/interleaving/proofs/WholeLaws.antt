@@ -1,5 +1,5 @@
 -- The walk of step 8 over a whole list: down a column, and from column to column.
-use Rattle.std.proofs.Common.{◌≡◌, ℕ, suc, ◌+◌, ◌-◌, ◌*◌, ◌<◌, ◌≤◌, List, length, get_or, set, sym, refl, ap, ◌∙◌, zero-add, add-one, arith, ext_get_or}
+use Rattle.std.proofs.Common.{◌≡◌, ℕ, suc, ◌+◌, ◌-◌, ◌*◌, ◌<◌, ◌≤◌, List, length, get_or, set, sym, refl, ap, ap₂, ◌∙◌, zero-add, add-one, arith, ext_get_or}
 use Rattle.laws.specs.Sums.{sum_to}
 use Rattle.laws.specs.Written.{Written}
 use Rattle.laws.proofs.WrittenLaws.{write_none, write_one, write_on}
@@ -7,9 +7,11 @@ use Rattle.sheet.specs.Counts.{most_bits}
 use Rattle.orders.specs.Orders.{order}
 use Rattle.orders.proofs.OrderLaws.{order-turn}
 use Rattle.interleaving.specs.Columns.{height}
-use Rattle.interleaving.specs.Second.{second_interleaved, read_before, comes_from}
-use Rattle.interleaving.specs.Whole.{four, Down, Agrees, ColumnPassed}
-use Rattle.interleaving.proofs.SecondLaws.{read_suc, read_all, read_within, source_row, second_at, second-length, second-set}
+use Rattle.interleaving.specs.Second.{read_before, comes_from}
+use Rattle.interleaving.specs.Directions.{Directed}
+use Rattle.interleaving.specs.Whole.{Down, Agrees, ColumnPassed}
+use Rattle.interleaving.proofs.DirectionLaws.{DirectionLaws, direction_laws}
+use Rattle.interleaving.proofs.SecondLaws.{read_suc, read_all, read_within, source_row}
 
 -- ---- down a column
 
@@ -125,51 +127,34 @@ module _ {A : Type 0} {z : A} {K : ℕ} {ys old : List A} {c begin : ℕ} where
             copied = rw e (rw (q, r) at w);
           }
 
--- what is read is what step 8 puts there
-module _ {A : Type 0} {z : A} {old : List A} {c begin : ℕ} (bits : List A) where
-  pub reads : {list u : List A} {k j m i : ℕ} → Going z (length bits) (second_interleaved bits) old c begin list k j → j < length bits
-      → u ≡ set list k (get_or bits j z) → m ≡ k + 1 → i ≡ j + 30 → Going z (length bits) (second_interleaved bits) old c begin u m i
-  reads {list} {k = k} g h e x y =
-      going_more g h
-      (e ∙ ap (set list k) (ap (λ (n : ℕ). get_or bits n z) (going_source g h) ∙ sym (second_at bits k z (going_index g h))))
-      x
-      y
+-- what is copied in a direction stands there once step 8 is done
+module _ {A : Type 0} {seen made : List A → List A} {reads writes : ℕ → ℕ → ℕ} (d : Directed seen made reads writes) (from : List A) where
+  abbrev laws : DirectionLaws seen made reads writes
+  laws = direction_laws d
 
-  pub reads-four : {list u : List A} {k j : ℕ} → Going z (length bits) (second_interleaved bits) old c begin list k j → j + 90 < length bits
-      → u ≡ four z bits j 30 list k 1 → Going z (length bits) (second_interleaved bits) old c begin u (k + 4) (j + 120)
-  reads-four {k = k} {j} g h e =
-      let a = reads {m = k + 1} {i = j + 30} g (omega arith) refl refl refl in
-      let b = reads {m = k + 2} {i = j + 60} a (omega arith) refl (omega arith) (omega arith) in
-      let d = reads {m = k + 3} {i = j + 90} b (omega arith) refl (omega arith) (omega arith) in
-      reads d h e (omega arith) (omega arith)
+  module _ {z : A} {old : List A} {c begin k j : ℕ} (to : List A) (g : Going z (length from) (seen from) old c begin (made to) k j) where
+    pub copied-long : length to ≡ length from
+    copied-long = sym (laws.made_long to) ∙ going_long g
 
--- what is written stands there once step 8 is done
-module _ {A : Type 0} {z : A} {ys old : List A} {c begin : ℕ} where
-  pub laid-long : {k j : ℕ} (values : List A) → Going z (length ys) ys old c begin (second_interleaved values) k j → length values ≡ length ys
-  laid-long values g = sym (second-length values) ∙ going_long g
+    module _ (h : j < length from) where
+      pub copied-inside : (reads j k < length from) × (writes j k < length to)
+      copied-inside =
+          let b = laws.below j k (length from) (length from) h (going_index g h) in
+          let s = laws.same (length from) in
+          (omega (arith, b.0, s.0), omega (arith, b.1, s.1, copied-long))
 
-  pub lays : {u : List A} {k j m i : ℕ} (values : List A) → Going z (length ys) ys old c begin (second_interleaved values) k j → j < length ys
-      → u ≡ set values j (get_or ys k z) → m ≡ k + 1 → i ≡ j + 30 → Going z (length ys) ys old c begin (second_interleaved u) m i
-  lays {k = k} values g h e x y =
-      let v = get_or ys k z in
-      let l = laid-long values g in
-      going_more g h
-      (ap second_interleaved e
-      ∙ ap (λ (n : ℕ). second_interleaved (set values n v)) (going_source g h ∙ ap (λ (n : ℕ). comes_from n k) (sym l))
-      ∙ second-set values k v (omega (arith, l, going_index g h)))
-      x
-      y
-
-  pub lays_four : {u : List A} {k j : ℕ} (values : List A) → Going z (length ys) ys old c begin (second_interleaved values) k j → j + 90 < length ys
-      → u ≡ four z ys k 1 values j 30 → Going z (length ys) ys old c begin (second_interleaved u) (k + 4) (j + 120)
-  lays_four {k = k} {j} values g h e =
-      let v1 = set values j (get_or ys k z) in
-      let v2 = set v1 (j + 30) (get_or ys (k + 1) z) in
-      let v3 = set v2 (j + 60) (get_or ys (k + 2) z) in
-      let a = lays {u = v1} {m = k + 1} {i = j + 30} values g (omega arith) refl refl refl in
-      let b = lays {u = v2} {m = k + 2} {i = j + 60} v1 a (omega arith) refl (omega arith) (omega arith) in
-      let d = lays {u = v3} {m = k + 3} {i = j + 90} v2 b (omega arith) refl (omega arith) (omega arith) in
-      lays v3 d h e (omega arith) (omega arith)
+      pub copied_on : {u : List A} {m i : ℕ} → u ≡ set to (writes j k) (get_or from (reads j k) z) → m ≡ k + 1 → i ≡ j + 30
+          → Going z (length from) (seen from) old c begin (made u) m i
+      copied_on e x y =
+          let r : reads (length from) (length to) ≡ length from = ap (reads (length from)) copied-long ∙ (laws.same (length from)).0 in
+          let q : j ≡ comes_from (reads (length from) (length to)) k = going_source g h ∙ ap (λ (n : ℕ). comes_from n k) (sym r) in
+          going_more g h
+          (ap made e
+          ∙ ap (λ (n : ℕ). made (set to (writes n k) (get_or from (reads n k) z))) q
+          ∙ laws.goes z from to k k (omega (arith, r, going_index g h))
+          ∙ ap₂ (λ (a b : ℕ). set (made to) a (get_or (seen from) b z)) (laws.same k).1 (laws.same k).0)
+          x
+          y
 
 -- ---- from column to column
 

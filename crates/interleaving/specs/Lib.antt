@@ -2,4 +2,5 @@ pub mod Columns
 pub mod First
 pub mod Second
 pub mod Turns
+pub mod Directions
 pub mod Whole

@@ -3,7 +3,7 @@ ghost use Rattle.std.specs.Prelude.{◌≡◌, length};
 ghost use Rattle.std.specs.Float.{nan};
 ghost use Rattle.interleaving.specs.First.{finished, Finishing};
 
-use crate::{frames, wide};
+use crate::frames;
 
 // The values of a channel in the coder's order: each segment is laid down its column, as far as `out` goes.
 pub fn finish(part: &[f32], tti: usize, n: usize, out: &mut [f32])
@@ -12,16 +12,12 @@ pub fn finish(part: &[f32], tti: usize, n: usize, out: &mut [f32])
 {
     let f = frames(tti);
     let row = orders::row(tti);
-    let mut s = 0;
-    while s < f {
-        let p = wide(row[s]);
+    for s in 0..f {
         let mut i = s * n;
-        let mut k = p;
-        while k < out.len() {
+        let p = usize::from(row[s]);
+        for k in (p..out.len()).step_by(f) {
             out[k] = part[i];
             i += 1;
-            k += f;
         }
-        s += 1;
     }
 }

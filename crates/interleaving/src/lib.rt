@@ -5,6 +5,7 @@ ghost use Rattle.std.specs.Prelude.{◌≡◌, ◌≤◌};
 ghost use Rattle.sheet.specs.Counts.{most_tti, most_frames};
 ghost use Rattle.sheet.specs.Sizes.{frames_in};
 
+pub mod direction;
 pub mod first;
 pub mod second;
 pub mod whole;
@@ -15,11 +16,4 @@ fn frames(tti: usize) -> usize
     ensures { (result ≡ frames_in tti) × (1 ≤ result) × (result ≤ most_frames) }
 {
     sheet::sizes::frames(tti as u16) as usize
-}
-
-// An entry of an order as an index.
-fn wide(x: u8) -> usize
-    ensures { result ≡ x }
-{
-    x as usize
 }

@@ -11,7 +11,7 @@ pub fn column_at(columns: &[u8; 30], t: usize) -> usize
     requires { (columns.now ≡ order) × (t < 30) }
     ensures { (result ≡ get_or order t 0) × (result < 30) }
 {
-    columns[t] as usize
+    usize::from(columns[t])
 }
 
 // How many of n elements column c holds.
@@ -30,21 +30,15 @@ fn height_by(rows: usize, rest: usize, c: usize) -> usize
     if c < rest { rows + 1 } else { rows }
 }
 
-// Where each turn begins among n interleaved elements, and where the last ends.
-pub fn begin_turns(n: usize) -> [usize; 31]
-    requires { n ≤ most_bits }
-    ensures { Turned n result }
-{
-    let order = orders::columns();
-    let rows = n / 30;
-    let rest = n % 30;
-    let mut begins = [0usize; 31];
-    let mut t: usize = 0;
-    while t < 30 {
-        begins[t + 1] = begins[t] + height_by(rows, rest, column_at(&order, t));
-        t += 1;
-    }
-    begins
+// The turns of step 8 among n interleaved elements: the column of each, where each begins, and where the last ends.
+#[derive(Drop)]
+pub struct Turns {
+    pub n: usize,
+    pub begins: [usize; 31],
+    pub columns: [u8; 30],
+    pub ghost begun: { Turned n begins },
+    pub ghost ordered: { columns ≡ order },
+    pub ghost few: { n ≤ most_bits },
 }
 
 // The seat of an index of interleaved elements: the turn in which it is read, the element that it comes from, and the turn's end.
@@ -55,28 +49,44 @@ pub struct Seat {
     pub end: usize,
 }
 
-// The turn of index k of n, which is not before turn t.
-fn turn_from(begins: &[usize; 31], n: usize, t: usize, k: usize) -> usize
-    requires { Turned n begins.now × (t < 30) × (read_before n t ≤ k) × (k < n) }
-    ensures { (result < 30) × (read_before n result ≤ k) × (k < read_before n (result + 1)) }
-{
-    let mut r = t;
-    while begins[r + 1] <= k {
-        r += 1;
+impl Turns {
+    pub fn of(n: usize) -> Turns
+        requires { n ≤ most_bits }
+        ensures { result.n ≡ n }
+    {
+        let columns = orders::columns();
+        let rows = n / 30;
+        let rest = n % 30;
+        let mut begins = [0usize; 31];
+        for t in 0..30 {
+            begins[t + 1] = begins[t] + height_by(rows, rest, column_at(&columns, t));
+        }
+        Turns { n, begins, columns }
     }
-    r
-}
 
-// Its seat. A walk goes from seat to seat, so that it looks for none twice.
-pub fn seat_from(begins: &[usize; 31], columns: &[u8; 30], n: usize, t: usize, k: usize) -> Seat
-    requires { Turned n begins.now × (columns.now ≡ order) × (t < 30) × (read_before n t ≤ k) × (k < n) × (n ≤ most_bits) }
-    ensures { Seated n k result }
-{
-    let turn = turn_from(begins, n, t, k);
-    Seat {
-        turn,
-        from: 30 * (k - begins[turn]) + column_at(columns, turn),
-        end: begins[turn + 1],
+    // The turn of index k, which is not before turn t.
+    fn turn_from(&self, t: usize, k: usize) -> usize
+        requires { (t < 30) × (read_before self.now.n t ≤ k) × (k < self.now.n) }
+        ensures { (result < 30) × (read_before self.now.n result ≤ k) × (k < read_before self.now.n (result + 1)) }
+    {
+        let mut r = t;
+        while self.begins[r + 1] <= k {
+            r += 1;
+        }
+        r
+    }
+
+    // Its seat. A walk goes from seat to seat, so that it looks for none twice.
+    pub fn seat_from(&self, t: usize, k: usize) -> Seat
+        requires { (t < 30) × (read_before self.now.n t ≤ k) × (k < self.now.n) }
+        ensures { Seated self.now.n k result }
+    {
+        let turn = self.turn_from(t, k);
+        Seat {
+            turn,
+            from: 30 * (k - self.begins[turn]) + column_at(&self.columns, turn),
+            end: self.begins[turn + 1],
+        }
     }
 }
 

@@ -1,93 +1,54 @@
 // Step 8 of a whole list at once: one column after the other, where nothing has to be looked for. Four elements are copied at a time, and the loops ask
 // whether the column goes on: of a loop that knows its height the compiler makes vectors, for which most columns are too short.
-ghost use Rattle.std.specs.Prelude.{◌≡◌, ◌+◌, ◌<◌, ◌≤◌, length};
-ghost use Rattle.std.specs.Float.{nan};
+ghost use Rattle.std.specs.Prelude.{◌≡◌, ◌≤◌, length};
 ghost use Rattle.sheet.specs.Counts.{most_bits};
 ghost use Rattle.interleaving.specs.Second.{second_interleaved};
-ghost use Rattle.interleaving.specs.Whole.{four, Down, ColumnPassed};
+ghost use Rattle.interleaving.specs.Whole.{Down, ColumnPassed};
 
-use crate::second::column_at;
+use crate::direction::{Back, Direction, There};
 
-// Reads four elements of a column.
-fn read_four(bits: &[u8], from: usize, k: usize, out: &mut [u8])
-    requires { (from + 90 < length bits.now) × (k + 3 < length out.old) }
-    ensures { out.new ≡ four 0 bits.now from 30 out.old k 1 }
-{
-    out[k] = bits[from];
-    out[k + 1] = bits[from + 30];
-    out[k + 2] = bits[from + 60];
-    out[k + 3] = bits[from + 90];
-}
-
-// Reads element c and every 30th behind it, which step 8 puts to the indices from `begin` on, and answers the index behind them.
-fn read_ones(bits: &[u8], c: usize, begin: usize, out: &mut [u8]) -> usize
-    requires { Down (length bits.now) c begin × (length out.old ≡ length bits.now) }
-    ensures { ColumnPassed 0 (second_interleaved bits.now) out.old out.new (length bits.now) c begin result }
+// Copies element c and every 30th behind it, whose indices after step 8 are those from `begin` on, and answers the index behind them.
+fn ones<D: Direction>(from: &[D::Item], c: usize, begin: usize, to: &mut [D::Item]) -> usize
+    requires { Down (length from.now) c begin × (length to.old ≡ length from.now) }
+    ensures { ColumnPassed D.none (D.seen from.now) (D.made to.old) (D.made to.new) (length from.now) c begin result }
 {
     let mut k = begin;
-    let mut from = c;
-    while from < bits.len() {
-        out[k] = bits[from];
+    let mut seat = c;
+    while seat < from.len() {
+        D::one(from, seat, k, to);
         k += 1;
-        from += 30;
+        seat += 30;
     }
     k
 }
 
 // The same by fours, as long as there are four.
-fn read_column(bits: &[u8], c: usize, begin: usize, out: &mut [u8]) -> usize
-    requires { Down (length bits.now) c begin × (length out.old ≡ length bits.now) }
-    ensures { ColumnPassed 0 (second_interleaved bits.now) out.old out.new (length bits.now) c begin result }
+fn column<D: Direction>(from: &[D::Item], c: usize, begin: usize, to: &mut [D::Item]) -> usize
+    requires { Down (length from.now) c begin × (length to.old ≡ length from.now) }
+    ensures { ColumnPassed D.none (D.seen from.now) (D.made to.old) (D.made to.new) (length from.now) c begin result }
 {
     let mut k = begin;
-    let mut from = c;
-    while from + 90 < bits.len() {
-        read_four(bits, from, k, out);
+    let mut seat = c;
+    while seat + 90 < from.len() {
+        D::one(from, seat, k, to);
+        D::one(from, seat + 30, k + 1, to);
+        D::one(from, seat + 60, k + 2, to);
+        D::one(from, seat + 90, k + 3, to);
         k += 4;
-        from += 120;
+        seat += 120;
     }
-    read_ones(bits, from, k, out)
+    ones::<D>(from, seat, k, to)
 }
 
-// Lays four values down a column.
-fn lay_four(from: &[f32], k: usize, to: usize, values: &mut [f32])
-    requires { (k + 3 < length from.now) × (to + 90 < length values.old) }
-    ensures { values.new ≡ four nan from.now k 1 values.old to 30 }
+// All columns, each in its turn.
+fn columns<D: Direction>(from: &[D::Item], to: &mut [D::Item])
+    requires { (length to.old ≡ length from.now) × (length from.now ≤ most_bits) }
+    ensures { D.made to.new ≡ D.seen from.now }
 {
-    values[to] = from[k];
-    values[to + 30] = from[k + 1];
-    values[to + 60] = from[k + 2];
-    values[to + 90] = from[k + 3];
-}
-
-// Lays the values from `begin` on down their column, from element c on, and answers the index behind them.
-fn lay_ones(from: &[f32], c: usize, begin: usize, values: &mut [f32]) -> usize
-    requires { Down (length from.now) c begin × (length values.old ≡ length from.now) }
-    ensures { ColumnPassed nan from.now (second_interleaved values.old) (second_interleaved values.new) (length from.now) c begin result }
-{
-    let mut k = begin;
-    let mut to = c;
-    while to < values.len() {
-        values[to] = from[k];
-        k += 1;
-        to += 30;
+    let mut k = 0;
+    for c in &orders::columns() {
+        k = column::<D>(from, usize::from(*c), k, to);
     }
-    k
-}
-
-// The same by fours, as long as there are four.
-fn lay_column(from: &[f32], c: usize, begin: usize, values: &mut [f32]) -> usize
-    requires { Down (length from.now) c begin × (length values.old ≡ length from.now) }
-    ensures { ColumnPassed nan from.now (second_interleaved values.old) (second_interleaved values.new) (length from.now) c begin result }
-{
-    let mut k = begin;
-    let mut to = c;
-    while to + 90 < values.len() {
-        lay_four(from, k, to, values);
-        k += 4;
-        to += 120;
-    }
-    lay_ones(from, to, k, values)
 }
 
 // Step 8.
@@ -95,13 +56,7 @@ pub fn interleave(bits: &[u8], out: &mut [u8])
     requires { (length out.old ≡ length bits.now) × (length bits.now ≤ most_bits) }
     ensures { out.new ≡ second_interleaved bits.now }
 {
-    let order = orders::columns();
-    let mut k: usize = 0;
-    let mut t: usize = 0;
-    while t < 30 {
-        k = read_column(bits, column_at(&order, t), k, out);
-        t += 1;
-    }
+    columns::<There>(bits, out);
 }
 
 // Step 8 undone.
@@ -109,11 +64,5 @@ pub fn undo(from: &[f32], values: &mut [f32])
     requires { (length values.old ≡ length from.now) × (length from.now ≤ most_bits) }
     ensures { second_interleaved values.new ≡ from.now }
 {
-    let order = orders::columns();
-    let mut k: usize = 0;
-    let mut t: usize = 0;
-    while t < 30 {
-        k = lay_column(from, column_at(&order, t), k, values);
-        t += 1;
-    }
+    columns::<Back>(from, values);
 }

@@ -8,15 +8,17 @@ use lib.Seq.{set-append_left}
 use Rattle.laws.specs.Sums.{sum_to}
 use Rattle.laws.proofs.TestLaws.{split}
 use Rattle.sheet.specs.Counts.{most_bits}
-use Rattle.interleaving.specs.Second.{second_interleaved, read_before, comes_from}
+use Rattle.interleaving.specs.Second.{read_before, comes_from}
+use Rattle.interleaving.specs.Directions.{Directed}
 use Rattle.interleaving.specs.Turns.{Seated}
 use Rattle.interleaving.specs.declared.second.Seat.{Seat}
-use Rattle.interleaving.proofs.SecondLaws.{source_below, second_at, second-set}
+use Rattle.interleaving.proofs.DirectionLaws.{direction_laws}
+use Rattle.interleaving.proofs.SecondLaws.{source_below}
 use Rattle.mapping.specs.declared.pairs.Pair.{Pair}
 use Rattle.mapping.specs.declared.lines.Line.{Line}
 use Rattle.mapping.specs.declared.lines.Walk.{Walk}
 use Rattle.mapping.specs.Mapping.{pos_of}
-use Rattle.mapping.specs.Lines.{bit_on, rank_on, spot_on, index_on, copied, whole_line, Within, Threaded, Walked, Way, Passed, Ready, part_from}
+use Rattle.mapping.specs.Lines.{bit_on, rank_on, spot_on, index_on, copied, whole_line, Within, Walked, Way, Passed, Ready, part_from}
 use Rattle.mapping.specs.Pairs.{caps_in, runs_in, place_in, line_of, Fit, Traced}
 use Rattle.mapping.proofs.PlaceLaws.{pos_up, pos_down, pos_in}
 use Rattle.mapping.proofs.TurnLaws.{place_of-within, place_of-apart}
@@ -122,13 +124,13 @@ pub record Turn (n places at : ℕ) (l : Line) (way t last : ℕ) : Type 0 where
   pub row : (k m : ℕ) → read_before n t ≤ k → k + m < last → comes_from n (k + m) ≡ comes_from n k + 30 * m
   pub ends : (last ≤ n) × (last ≤ at + l.bit + l.count * l.step)
 
-pub turn_starts : {n places at : ℕ} {l : Line} {way k last : ℕ} {s : Seat} {begins columns : List ℕ} → Within places places l
-    → Threaded n at places begins columns → Way l way → Seated n k s → (last ≤ s.end) × (last ≤ at + l.bit + l.count * l.step)
+pub turn_starts : {n places at : ℕ} {l : Line} {way k last : ℕ} {s : Seat} → Within places places l
+    → (at + places ≤ n) × (n ≤ most_bits) → Way l way → Seated n k s → (last ≤ s.end) × (last ≤ at + l.bit + l.count * l.step)
     → Turn n places at l way s.turn last
 turn_starts g h v e b = record {
   within = g;
-  inside = h.inside;
-  most = h.most;
+  inside = h.0;
+  most = h.1;
   moves = v;
   number = e.turn;
   row = λ k m r q. e.row k m r (omega (arith, b));
@@ -179,48 +181,31 @@ module _ {A : Type 0} {n places at : ℕ} {l : Line} {way t last : ℕ} {d : A} 
     copied = rw p.i (copied_more c.copied refl refl e);
   }
 
-  seat-is : (xs : List A) → length xs ≡ n → w.seat ≡ comes_from (length xs) w.k
-  seat-is xs e = c.comes h ∙ ap (λ (m : ℕ). comes_from m w.k) (sym e)
+-- elements go between the walk's seat and its place
+pub record Moving {A : Type 0} (seen made : List A → List A) (reads writes : ℕ → ℕ → ℕ) (n places at : ℕ) (l : Line) (way t last : ℕ) (d : A) (from : List A) (j : ℕ) (v : List A) (w : Walk) (u : List A) : Type 0 where
+  pub copying : Copying n places at l way t last d (λ i. reads (index_on at l i) (spot_on l i)) (λ i. writes (index_on at l i) (spot_on l i)) (seen from) j (made v) w (made u)
+  pub long : (reads (length from) (length u) ≡ n) × (writes (length from) (length u) ≡ places)
 
--- bits are put from the walk's seat to its place
-pub record Putting {A : Type 0} (at : ℕ) (l : Line) (way t last : ℕ) (d : A) (bits : List A) (j : ℕ) (v : List A) (w : Walk) (u : List A) : Type 0 where
-  pub copying : Copying (length bits) (length v) at l way t last d (index_on at l) (spot_on l) (second_interleaved bits) j v w u
+module _ {A : Type 0} {seen made : List A → List A} {reads writes : ℕ → ℕ → ℕ} (b : Directed seen made reads writes) {n places at : ℕ} {l : Line} {way t last : ℕ} {d : A} {from : List A} {j : ℕ} {v : List A} {w : Walk} {u : List A}
+    (p : Moving seen made reads writes n places at l way t last d from j v w u) (h : w.k < last) where
+  pub move_ready : Ready (reads (length from) (length u)) (writes (length from) (length u)) l w
+  move_ready = rw (p.long.0, p.long.1) (copying_ready p.copying h)
 
-module _ {A : Type 0} {at : ℕ} {l : Line} {way t last : ℕ} {d : A} {bits : List A} {j : ℕ} {v : List A} {w : Walk} {u : List A}
-    (p : Putting at l way t last d bits j v w u) (h : w.k < last) where
-  pub put_ready : Ready (length bits) (length u) l w
-  put_ready = rw p.copying.copied.long (copying_ready p.copying h)
-
-  pub put_more : {r : Walk} {x : List A} → Passed l way w r → x ≡ set u w.place (get_or bits w.seat d) → Putting at l way t last d bits j v r x
-  put_more q e =
+  pub move_more : {r : Walk} {x : List A} → Passed l way w r → x ≡ set u (writes w.seat w.place) (get_or from (reads w.seat w.place) d)
+      → Moving seen made reads writes n places at l way t last d from j v r x
+  move_more {x = x} q e =
       let c = p.copying in
-      let k : w.k < length bits = omega (arith, c.turn.ends) in
-      let y : get_or bits w.seat d ≡ get_or (second_interleaved bits) (index_on at l w.i) d =
-      ap (λ (i : ℕ). get_or bits i d) (seat-is c h bits refl) ∙ sym (second_at bits w.k d k) ∙ ap (λ (i : ℕ). get_or (second_interleaved bits) i d) c.walked.index in
-      record { copying = copying_more c h q (e ∙ ap₂ (λ (i : ℕ) (x : A). set u i x) (c.walked.place (one c h)) y) }
-
--- soft values are taken from its place to its seat
-pub record Taking {A : Type 0} (n at : ℕ) (l : Line) (way t last : ℕ) (d : A) (frame : List A) (j : ℕ) (v : List A) (w : Walk) (u : List A) : Type 0 where
-  pub copying : Copying n (length frame) at l way t last d (spot_on l) (index_on at l) frame j (second_interleaved v) w (second_interleaved u)
-  pub long : length u ≡ n
-
-module _ {A : Type 0} {n at : ℕ} {l : Line} {way t last : ℕ} {d : A} {frame : List A} {j : ℕ} {v : List A} {w : Walk} {u : List A}
-    (p : Taking n at l way t last d frame j v w u) (h : w.k < last) where
-  pub take_ready : Ready (length u) (length frame) l w
-  take_ready = rw p.long (copying_ready p.copying h)
-
-  pub take_more : {r : Walk} {x : List A} → Passed l way w r → x ≡ set u w.seat (get_or frame w.place d) → Taking n at l way t last d frame j v r x
-  take_more q e =
-      let c = p.copying in
-      let y = get_or frame w.place d in
+      let K = reads (length from) (length u) in
+      let s : w.seat ≡ comes_from K w.k = c.comes h ∙ ap (λ (m : ℕ). comes_from m w.k) (sym p.long.0) in
+      let m : length x ≡ length u = ap length e ∙ length-set u (writes w.seat w.place) (get_or from (reads w.seat w.place) d) in
       record {
         copying =
             copying_more c h q
-            (ap second_interleaved e
-            ∙ ap (λ (i : ℕ). second_interleaved (set u i y)) (seat-is c h u p.long)
-            ∙ second-set u w.k y (omega (arith, c.turn.ends, p.long))
-            ∙ ap₂ (λ (k i : ℕ). set (second_interleaved u) k (get_or frame i d)) c.walked.index (c.walked.place (one c h)));
-        long = ap length e ∙ length-set u w.seat y ∙ p.long;
+            (ap made e
+            ∙ ap (λ (i : ℕ). made (set u (writes i w.place) (get_or from (reads i w.place) d))) s
+            ∙ (direction_laws b).goes d from u w.k w.place (omega (arith, c.turn.ends, p.long.0))
+            ∙ ap₂ (λ (k i : ℕ). set (made u) (writes k i) (get_or (seen from) (reads k i) d)) c.walked.index (c.walked.place (one c h)));
+        long = (ap (λ (i : ℕ). reads (length from) i) m ∙ p.long.0, ap (λ (i : ℕ). writes (length from) i) m ∙ p.long.1);
       }
 
 -- ---- a part of a longer list

@@ -4,6 +4,7 @@ use Rattle.std.specs.Prelude.{◌≡◌, ℕ, zero, suc, ◌+◌, ◌-◌, ◌*�
 use Rattle.sheet.specs.Counts.{most_bits}
 use Rattle.orders.specs.Orders.{order}
 use Rattle.interleaving.specs.Turns.{Turned}
+use Rattle.interleaving.specs.declared.second.Turns.{Turns}
 use Rattle.mapping.specs.Mapping.{pos_of}
 use Rattle.mapping.specs.declared.lines.Line.{Line}
 use Rattle.mapping.specs.declared.lines.Walk.{Walk}
@@ -81,6 +82,11 @@ pub record Threaded (K at n : ℕ) (begins columns : List ℕ) : Type 0 where
   pub ordered : columns ≡ order
   pub inside : at + n ≤ K
   pub most : K ≤ most_bits
+
+-- the same of turns that are known
+pub record Lent (K at n : ℕ) (t : Turns) : Type 0 where
+  pub all : t.n ≡ K
+  pub inside : at + n ≤ K
 
 -- those n
 abbrev pub part_from : {A : Type 0} → ℕ → ℕ → List A → List A

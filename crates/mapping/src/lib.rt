@@ -8,7 +8,7 @@ ghost use Rattle.std.specs.Float.{nan};
 ghost use Rattle.mapping.specs.Mapping.{pos_of, number_of, filled_as, ones, first_run, second_run, in_runs, at, slot_size, slot_of, slot_undone, Slot};
 ghost use Rattle.mapping.specs.Runs.{had_in, Short, Coded};
 ghost use Rattle.mapping.specs.Strides.{turns, walk, Reached, Least, Marked, Leg, Onward};
-ghost use Rattle.mapping.specs.Lines.{line_along, Threaded, part_from};
+ghost use Rattle.mapping.specs.Lines.{line_along, Lent, part_from};
 ghost use Rattle.interleaving.specs.Second.{second_interleaved};
 ghost use Rattle.sheet.specs.Counts.{most_bits};
 ghost use borrow.Rule.Slice.PartMut.{put_mid};
@@ -18,8 +18,9 @@ mod pairs;
 mod rounds;
 mod short;
 
-use interleaving::second::begin_turns;
-use lines::{Line, put_line, take_line};
+use interleaving::direction::{Back, There};
+use interleaving::second::Turns;
+use lines::{Line, along};
 use rounds::{is_threefold, map_threefold};
 use short::{FEW, SHORT};
 
@@ -48,18 +49,12 @@ pub fn runs_of(first: u16, second: u16) -> Runs
     }
 }
 
-fn lesser(a: usize, b: usize) -> usize
-    ensures { result ≡ min a b }
-{
-    if a < b { a } else { b }
-}
-
 // What PhCH p takes.
 fn capacity(caps: &[u16], p: usize) -> usize
     requires { p < length caps.now }
     ensures { (result ≡ at caps.now p) × (result < 65536) }
 {
-    caps[p] as usize
+    usize::from(caps[p])
 }
 
 // How many whole runs x bits have. Where bits go one at a time nothing is divided.
@@ -119,27 +114,10 @@ fn least(caps: &[u16]) -> usize
     ensures { Least caps.now (length caps.now) result }
 {
     let mut m: usize = 65535;
-    let mut q: usize = 0;
-    while q < caps.len() {
-        m = lesser(m, capacity(caps, q));
-        q += 1;
+    for cap in caps {
+        m = m.min(usize::from(*cap));
     }
     m
-}
-
-// Before a slot's first bit.
-fn start(caps: &[u16]) -> Mark
-    requires { slot_size caps.now + length caps.now < 18446744073709551616 }
-    ensures { Marked caps.now result × (result.base + result.x ≡ 0) }
-{
-    Mark {
-        low: least(caps),
-        p: 0,
-        base: 0,
-        first: 0,
-        x: 0,
-        k: 0,
-    }
 }
 
 // Up to which bit of PhCH p another, which takes v and has had `had` turns by p's bit x, has room each time; `end` at most.
@@ -147,7 +125,7 @@ fn until(end: usize, v: usize, had: usize, x: usize) -> usize
     requires { (x ≤ had) × (had < v) }
     ensures { result ≡ min end (v - (had - x)) }
 {
-    lesser(end, v - (had - x))
+    end.min(v - (had - x))
 }
 
 // The stretch of PhCH p, which has u places, from its bit x on, by asking each PhCH whether it has room, and for how long.
@@ -155,134 +133,135 @@ fn reach(caps: &[u16], p: usize, u: usize, x: usize) -> Stretch
     requires { (u ≡ at caps.now p) × (u < 65536) × (x < u) }
     ensures { (result.room ≡ u) × Reached (at caps.now) (length caps.now) p x result.stride result.end }
 {
-    let mut stride: usize = 0;
+    let mut stride = 0;
     let mut end = u;
-    let mut q: usize = 0;
-    while q < caps.len() {
+    for q in 0..caps.len() {
         let v = capacity(caps, q);
         let had = turns_had(p, x, q);
         if had < v {
             stride += 1;
             end = until(end, v, had, x);
         }
-        q += 1;
     }
     Stretch {
         room: u,
-        stride: stride,
-        end: end,
+        stride,
+        end,
     }
 }
 
-// The stretch, at once where no PhCH is near its end or the PhCH has one bit left or none, and else by asking. After a PhCH's last bit the
-// stride does not matter.
-fn stretch_from(caps: &[u16], m: Mark) -> Stretch
-    requires { Marked caps.now m × (m.p < length caps.now) }
-    ensures { Leg caps.now m result }
-{
-    let u = capacity(caps, m.p);
-    let low = m.low;
-    let x = m.x;
-    if x + 1 < low {
-        Stretch {
-            room: u,
-            stride: caps.len(),
-            end: if u == low { u } else { low - 1 },
-        }
-    } else if u <= x + 1 {
-        Stretch {
-            room: u,
-            stride: 1,
-            end: u,
-        }
-    } else {
-        reach(caps, m.p, u, x)
-    }
-}
-
-// After a stretch, k being the number of the bit that comes next in the PhCH: there, or at the next PhCH.
-fn onward(caps: &[u16], m: Mark, r: Stretch, k: usize) -> Mark
-    requires { Leg caps.now m r × (r.end < r.room → k ≡ walk (at caps.now) (length caps.now) m.p r.end) }
-    ensures { Onward caps.now m r result }
-{
-    if r.end < r.room {
+impl Mark {
+    // Before a slot's first bit.
+    fn start(caps: &[u16]) -> Mark
+        requires { slot_size caps.now + length caps.now < 18446744073709551616 }
+        ensures { Marked caps.now result × (result.base + result.x ≡ 0) }
+    {
         Mark {
-            low: m.low,
-            p: m.p,
-            base: m.base,
-            first: m.first,
-            x: r.end,
-            k: k,
-        }
-    } else {
-        let first = m.first + lesser(r.room, 1);
-        Mark {
-            low: m.low,
-            p: m.p + 1,
-            base: m.base + r.room,
-            first: first,
+            low: least(caps),
+            p: 0,
+            base: 0,
+            first: 0,
             x: 0,
-            k: first,
+            k: 0,
         }
     }
-}
 
-// A stretch as a line.
-fn line_along(m: Mark, r: Stretch) -> Line
-    requires { m.x ≤ r.end }
-    ensures { result ≡ line_along m r }
-{
-    Line {
-        bit: m.k,
-        step: r.stride,
-        base: m.base,
-        p: m.p,
-        room: r.room,
-        rank: m.x,
-        apart: 1,
-        count: r.end - m.x,
+    // The stretch, at once where no PhCH is near its end or the PhCH has one bit left or none, and else by asking. After a PhCH's last bit the
+    // stride does not matter.
+    fn stretch(self, caps: &[u16]) -> Stretch
+        requires { Marked caps.now self × (self.p < length caps.now) }
+        ensures { Leg caps.now self result }
+    {
+        let u = capacity(caps, self.p);
+        let low = self.low;
+        let x = self.x;
+        if x + 1 < low {
+            Stretch {
+                room: u,
+                stride: caps.len(),
+                end: if u == low { u } else { low - 1 },
+            }
+        } else if u <= x + 1 {
+            Stretch {
+                room: u,
+                stride: 1,
+                end: u,
+            }
+        } else {
+            reach(caps, self.p, u, x)
+        }
+    }
+
+    // After a stretch, k being the number of the bit that comes next in the PhCH: there, or at the next PhCH.
+    fn onward(self, caps: &[u16], r: Stretch, k: usize) -> Mark
+        requires { Leg caps.now self r × (r.end < r.room → k ≡ walk (at caps.now) (length caps.now) self.p r.end) }
+        ensures { Onward caps.now self r result }
+    {
+        if r.end < r.room {
+            Mark {
+                low: self.low,
+                p: self.p,
+                base: self.base,
+                first: self.first,
+                x: r.end,
+                k: k,
+            }
+        } else {
+            let first = self.first + r.room.min(1);
+            Mark {
+                low: self.low,
+                p: self.p + 1,
+                base: self.base + r.room,
+                first: first,
+                x: 0,
+                k: first,
+            }
+        }
+    }
+
+    // A stretch as a line.
+    fn line(self, r: Stretch) -> Line
+        requires { self.x ≤ r.end }
+        ensures { result ≡ line_along self r }
+    {
+        Line {
+            bit: self.k,
+            step: r.stride,
+            base: self.base,
+            p: self.p,
+            room: r.room,
+            rank: self.x,
+            apart: 1,
+            count: r.end - self.x,
+        }
     }
 }
 
 // Maps the bits of a slot, one at a time to each PhCH that has room.
-fn map_ones(
-    bits: &[u8],
-    begins: &[usize; 31],
-    columns: &[u8; 30],
-    at: usize,
-    caps: &[u16],
-    frame: &mut [u8],
-)
-    requires { Slot caps.now (length frame.old) (length frame.old) × (length caps.now ≤ 16) × Threaded (length bits.now) at (length frame.old) begins.now columns.now }
+fn map_ones(bits: &[u8], turns: &Turns, at: usize, caps: &[u16], frame: &mut [u8])
+    requires { Slot caps.now (length frame.old) (length frame.old) × (length caps.now ≤ 16) × Lent (length bits.now) at (length frame.old) turns.now }
     ensures { frame.new ≡ slot_of ones caps.now (part_from at (length frame.old) (second_interleaved bits.now)) frame.old }
 {
-    let mut m = start(caps);
+    let mut m = Mark::start(caps);
     while m.p < caps.len() {
-        let r = stretch_from(caps, m);
-        let l = line_along(m, r);
-        put_line(bits, begins, columns, at, l, frame);
-        m = onward(caps, m, r, m.k + l.count * r.stride);
+        let r = m.stretch(caps);
+        let l = m.line(r);
+        along::<There>(bits, turns, at, l, frame);
+        m = m.onward(caps, r, m.k + l.count * r.stride);
     }
 }
 
 // Takes the soft values of such a slot back to where its bits came from.
-fn unmap_ones(
-    frame: &[f32],
-    begins: &[usize; 31],
-    columns: &[u8; 30],
-    at: usize,
-    caps: &[u16],
-    values: &mut [f32],
-)
-    requires { Slot caps.now (length frame.now) (length frame.now) × (length caps.now ≤ 16) × Threaded (length values.old) at (length frame.now) begins.now columns.now }
+fn unmap_ones(frame: &[f32], turns: &Turns, at: usize, caps: &[u16], values: &mut [f32])
+    requires { Slot caps.now (length frame.now) (length frame.now) × (length caps.now ≤ 16) × Lent (length values.old) at (length frame.now) turns.now }
     ensures { second_interleaved values.new ≡ put_mid at (length frame.now) (second_interleaved values.old) (slot_undone ones caps.now nan frame.now) }
 {
-    let mut m = start(caps);
+    let mut m = Mark::start(caps);
     while m.p < caps.len() {
-        let r = stretch_from(caps, m);
-        let l = line_along(m, r);
-        take_line(frame, begins, columns, at, l, values);
-        m = onward(caps, m, r, m.k + l.count * r.stride);
+        let r = m.stretch(caps);
+        let l = m.line(r);
+        along::<Back>(frame, turns, at, l, values);
+        m = m.onward(caps, r, m.k + l.count * r.stride);
     }
 }
 
@@ -301,17 +280,16 @@ pub fn map_slot(bits: &[u8], at: usize, caps: &[u16], runs: Runs, frame: &mut [u
         map_threefold(bits, caps, frame);
         return;
     }
-    let begins = begin_turns(bits.len());
-    let order = orders::columns();
+    let turns = Turns::of(bits.len());
     if runs.first + runs.other != 2 {
-        pairs::map_pair(bits, &begins, &order, at, caps, runs, frame);
+        pairs::map_pair(bits, &turns, at, caps, runs, frame);
         return;
     }
     if frame.len() <= SHORT && bits.len() < FEW * caps.len() {
-        short::map_short(bits, &begins, &order, at, caps, frame);
+        short::map_short(bits, &turns, at, caps, frame);
         return;
     }
-    map_ones(bits, &begins, &order, at, caps, frame);
+    map_ones(bits, &turns, at, caps, frame);
 }
 
 // Takes the soft values of a slot back to where its bits came from; the other values stay as they are.
@@ -323,17 +301,16 @@ pub fn unmap_slot(frame: &[f32], caps: &[u16], runs: Runs, at: usize, values: &m
         interleaving::whole::undo(frame, values);
         return;
     }
-    let begins = begin_turns(values.len());
-    let order = orders::columns();
+    let turns = Turns::of(values.len());
     if runs.first + runs.other != 2 {
-        pairs::unmap_pair(frame, &begins, &order, at, caps, runs, values);
+        pairs::unmap_pair(frame, &turns, at, caps, runs, values);
         return;
     }
     if frame.len() <= SHORT && values.len() < FEW * caps.len() {
-        short::unmap_short(frame, &begins, &order, at, caps, values);
+        short::unmap_short(frame, &turns, at, caps, values);
         return;
     }
-    unmap_ones(frame, &begins, &order, at, caps, values);
+    unmap_ones(frame, &turns, at, caps, values);
 }
 
 // Which of a PhCH's u bits, counted from 0, stands at its place, counted from 1: the undoing of `spot`.
@@ -360,7 +337,7 @@ fn had_by(caps: &[u16], runs: Runs, p: usize, turn: usize, q: usize) -> usize
     if q == p {
         return 0;
     }
-    lesser(capacity(caps, q), turns_had(p, turn, q) * run_of(runs, q))
+    capacity(caps, q).min(turns_had(p, turn, q) * run_of(runs, q))
 }
 
 // The slot's bit that stands at a place of PhCH p: as many as all PhCHs have by then.
@@ -370,11 +347,9 @@ pub fn bit_at(caps: &[u16], runs: Runs, p: usize, place: usize) -> usize
 {
     let x = rank_at(p, capacity(caps, p), place);
     let turn = whole_runs(x, run_of(runs, p));
-    let mut sum: usize = 0;
-    let mut q: usize = 0;
-    while q < caps.len() {
+    let mut sum = 0;
+    for q in 0..caps.len() {
         sum += had_by(caps, runs, p, turn, q);
-        q += 1;
     }
     x + sum
 }

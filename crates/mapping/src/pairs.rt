@@ -6,12 +6,14 @@ ghost use Rattle.std.specs.Float.{nan};
 ghost use Rattle.mapping.specs.Mapping.{in_runs, at, slot_of, slot_undone};
 ghost use Rattle.mapping.specs.Runs.{Short, Paired};
 ghost use Rattle.mapping.specs.Pairs.{lines, Rounds, Fit, PairOf, Traced};
-ghost use Rattle.mapping.specs.Lines.{Threaded, part_from};
+ghost use Rattle.mapping.specs.Lines.{Lent, part_from};
 ghost use Rattle.interleaving.specs.Second.{second_interleaved};
 ghost use borrow.Rule.Slice.PartMut.{put_mid};
 
-use crate::lines::{Line, put_line, take_line};
-use crate::{Runs, capacity, lesser, whole_runs};
+use crate::lines::{Line, along};
+use crate::{Runs, capacity, whole_runs};
+use interleaving::direction::{Back, There};
+use interleaving::second::Turns;
 
 // PhCH 1 takes u bits in runs of b, and PhCH 2 takes v in runs of c. As many `rounds` give each a whole run; in the round after them PhCH 1 takes
 // `rest` bits.
@@ -40,155 +42,142 @@ fn full_rounds(u: usize, b: usize, v: usize, c: usize) -> usize
     requires { (0 < b) × (0 < c) }
     ensures { Rounds u b v c result }
 {
-    lesser(whole_runs(u, b), whole_runs(v, c))
+    whole_runs(u, b).min(whole_runs(v, c))
 }
 
-// The pair of a slot in such runs. A PhCH that is not there takes no bits.
-fn pair_of(caps: &[u16], runs: Runs) -> Pair
-    requires { Short runs.first runs.other }
-    ensures { PairOf caps.now runs.first runs.other result }
-{
-    let u = share(caps, 0);
-    let v = share(caps, 1);
-    let rounds = full_rounds(u, runs.first, v, runs.other);
-    let rest = lesser(runs.first, u - rounds * runs.first);
-    Pair {
-        b: runs.first,
-        c: runs.other,
-        u: u,
-        v: v,
-        rounds: rounds,
-        rest: rest,
+impl Pair {
+    // The pair of a slot in such runs. A PhCH that is not there takes no bits.
+    fn of(caps: &[u16], runs: Runs) -> Pair
+        requires { Short runs.first runs.other }
+        ensures { PairOf caps.now runs.first runs.other result }
+    {
+        let u = share(caps, 0);
+        let v = share(caps, 1);
+        let rounds = full_rounds(u, runs.first, v, runs.other);
+        let rest = runs.first.min(u - rounds * runs.first);
+        Pair {
+            b: runs.first,
+            c: runs.other,
+            u,
+            v,
+            rounds,
+            rest,
+        }
     }
-}
 
-// The line after all others: what PhCH 1 still has room for once PhCH 2 is full.
-fn last_line(t: Pair) -> Line
-    requires { Fit t }
-    ensures { Traced t (t.b + t.c + 2) result }
-{
-    let x = t.rounds * t.b + t.rest;
-    Line {
-        bit: x + t.v,
-        step: 1,
-        base: 0,
-        p: 0,
-        room: t.u,
-        rank: x,
-        apart: 1,
-        count: t.u - x,
-    }
-}
-
-// A line past the full rounds, along neighbours: PhCH 1's part of its run, all that PhCH 2 still has room for, and the last.
-fn line_after(t: Pair, j: usize) -> Line
-    requires { Fit t × (t.b + t.c ≤ j) × (j < lines t) }
-    ensures { Traced t j result }
-{
-    let x = t.rounds * t.b;
-    let y = t.rounds * t.c;
-    if j == t.b + t.c {
-        return Line {
-            bit: x + y,
+    // The line after all others: what PhCH 1 still has room for once PhCH 2 is full.
+    fn last_line(self) -> Line
+        requires { Fit self }
+        ensures { Traced self (self.b + self.c + 2) result }
+    {
+        let x = self.rounds * self.b + self.rest;
+        Line {
+            bit: x + self.v,
             step: 1,
             base: 0,
             p: 0,
-            room: t.u,
+            room: self.u,
             rank: x,
             apart: 1,
-            count: t.rest,
-        };
+            count: self.u - x,
+        }
     }
-    if j == t.b + t.c + 1 {
-        return Line {
-            bit: x + y + t.rest,
-            step: 1,
-            base: t.u,
-            p: 1,
-            room: t.v,
-            rank: y,
-            apart: 1,
-            count: t.v - y,
-        };
-    }
-    last_line(t)
-}
 
-// Line j: bit j of each full round, a bit of PhCH 1's run or of PhCH 2's, or one past those rounds.
-fn line_of(t: Pair, j: usize) -> Line
-    requires { Fit t × (j < lines t) }
-    ensures { Traced t j result }
-{
-    let n = t.b + t.c;
-    if j < t.b {
-        return Line {
+    // A line past the full rounds, along neighbours: PhCH 1's part of its run, all that PhCH 2 still has room for, and the last.
+    fn line_after(self, j: usize) -> Line
+        requires { Fit self × (self.b + self.c ≤ j) × (j < lines self) }
+        ensures { Traced self j result }
+    {
+        let x = self.rounds * self.b;
+        let y = self.rounds * self.c;
+        if j == self.b + self.c {
+            return Line {
+                bit: x + y,
+                step: 1,
+                base: 0,
+                p: 0,
+                room: self.u,
+                rank: x,
+                apart: 1,
+                count: self.rest,
+            };
+        }
+        if j == self.b + self.c + 1 {
+            return Line {
+                bit: x + y + self.rest,
+                step: 1,
+                base: self.u,
+                p: 1,
+                room: self.v,
+                rank: y,
+                apart: 1,
+                count: self.v - y,
+            };
+        }
+        self.last_line()
+    }
+
+    // Line j: bit j of each full round, a bit of PhCH 1's run or of PhCH 2's, or one past those rounds.
+    fn line(self, j: usize) -> Line
+        requires { Fit self × (j < lines self) }
+        ensures { Traced self j result }
+    {
+        let n = self.b + self.c;
+        if j < self.b {
+            return Line {
+                bit: j,
+                step: n,
+                base: 0,
+                p: 0,
+                room: self.u,
+                rank: j,
+                apart: self.b,
+                count: self.rounds,
+            };
+        }
+        if n <= j {
+            return self.line_after(j);
+        }
+        Line {
             bit: j,
             step: n,
-            base: 0,
-            p: 0,
-            room: t.u,
-            rank: j,
-            apart: t.b,
-            count: t.rounds,
-        };
-    }
-    if n <= j {
-        return line_after(t, j);
-    }
-    Line {
-        bit: j,
-        step: n,
-        base: t.u,
-        p: 1,
-        room: t.v,
-        rank: j - t.b,
-        apart: t.c,
-        count: t.rounds,
+            base: self.u,
+            p: 1,
+            room: self.v,
+            rank: j - self.b,
+            apart: self.c,
+            count: self.rounds,
+        }
     }
 }
 
 // Maps the bits of such a slot.
-pub fn map_pair(
-    bits: &[u8],
-    begins: &[usize; 31],
-    columns: &[u8; 30],
-    at: usize,
-    caps: &[u16],
-    runs: Runs,
-    frame: &mut [u8],
-)
-    requires { Paired caps.now runs.first runs.other (length frame.old) (length frame.old) × Threaded (length bits.now) at (length frame.old) begins.now columns.now }
+pub fn map_pair(bits: &[u8], turns: &Turns, at: usize, caps: &[u16], runs: Runs, frame: &mut [u8])
+    requires { Paired caps.now runs.first runs.other (length frame.old) (length frame.old) × Lent (length bits.now) at (length frame.old) turns.now }
     ensures { frame.new ≡ slot_of (in_runs runs.first runs.other) caps.now (part_from at (length frame.old) (second_interleaved bits.now)) frame.old }
 {
-    let t = pair_of(caps, runs);
+    let t = Pair::of(caps, runs);
     let n = runs.first + runs.other + 3;
-    let mut j: usize = 0;
-    while j < n {
-        let l = line_of(t, j);
-        put_line(bits, begins, columns, at, l, frame);
-        j += 1;
+    for j in 0..n {
+        along::<There>(bits, turns, at, t.line(j), frame);
     }
 }
 
 // Takes the soft values of such a slot back to where its bits came from.
 pub fn unmap_pair(
     frame: &[f32],
-    begins: &[usize; 31],
-    columns: &[u8; 30],
+    turns: &Turns,
     at: usize,
     caps: &[u16],
     runs: Runs,
     values: &mut [f32],
 )
-    requires { Paired caps.now runs.first runs.other (length frame.now) (length frame.now) × Threaded (length values.old) at (length frame.now) begins.now columns.now }
+    requires { Paired caps.now runs.first runs.other (length frame.now) (length frame.now) × Lent (length values.old) at (length frame.now) turns.now }
     ensures { second_interleaved values.new ≡ put_mid at (length frame.now) (second_interleaved values.old) (slot_undone (in_runs runs.first runs.other) caps.now nan frame.now) }
 {
-    let t = pair_of(caps, runs);
+    let t = Pair::of(caps, runs);
     let n = runs.first + runs.other + 3;
-    let mut j: usize = 0;
-    while j < n {
-        let l = line_of(t, j);
-        take_line(frame, begins, columns, at, l, values);
-        j += 1;
+    for j in 0..n {
+        along::<Back>(frame, turns, at, t.line(j), values);
     }
 }

@@ -7,8 +7,8 @@ ghost use Rattle.interleaving.specs.Second.{second_interleaved};
 ghost use Rattle.mapping.specs.Mapping.{ones, slot_of, Slot};
 ghost use Rattle.mapping.specs.Rounds.{handed_on, Threefold, Handed, Facing, ColumnCarried};
 
-use crate::{capacity, lesser};
-use interleaving::second::column_at;
+use crate::capacity;
+use crate::lines::lone_from;
 
 // Bit k of the slot goes to place a, the next to b and the one after to c, if there are such bits; the next bit of each of these PhCHs goes wa, wb or wc
 // further, modulo 2^64. The compiler drops k, which the proof counts by.
@@ -74,7 +74,7 @@ fn put_column(bits: &[u8], caps: &[u16], c: usize, h: Hands, frame: &mut [u8]) -
     requires { Facing caps.now (length bits.now) (length frame.old) c h }
     ensures { ColumnCarried caps.now bits.now c h frame.old result frame.new }
 {
-    let last = bits.len() - lesser(60, bits.len());
+    let last = lone_from(60, bits.len());
     let mut from = c;
     let mut g = h;
     while from < last {
@@ -94,7 +94,7 @@ fn start(caps: &[u16], u: usize) -> Hands
     Hands {
         k: 0,
         a: 0,
-        b: 2 * u - lesser(u, 1),
+        b: 2 * u - u.min(1),
         c: 2 * u,
         wa: 1,
         wb: std::num::wrapping_sub_usize(0, 1),
@@ -107,11 +107,8 @@ pub fn map_threefold(bits: &[u8], caps: &[u16], frame: &mut [u8])
     requires { Threefold caps.now × Slot caps.now (length bits.now) (length frame.old) × (length bits.now ≤ most_bits) }
     ensures { frame.new ≡ slot_of ones caps.now (second_interleaved bits.now) frame.old }
 {
-    let order = orders::columns();
     let mut h = start(caps, capacity(caps, 0));
-    let mut t: usize = 0;
-    while t < 30 {
-        h = put_column(bits, caps, column_at(&order, t), h, frame);
-        t += 1;
+    for c in &orders::columns() {
+        h = put_column(bits, caps, usize::from(*c), h, frame);
     }
 }

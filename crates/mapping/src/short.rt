@@ -6,10 +6,12 @@ ghost use borrow.Rule.Slice.PartMut.{put_mid};
 ghost use Rattle.interleaving.specs.Second.{second_interleaved};
 ghost use Rattle.mapping.specs.Mapping.{ones, slot_of, slot_undone, Slot};
 ghost use Rattle.mapping.specs.Strides.{Along};
-ghost use Rattle.mapping.specs.Lines.{whole_line, short_slot, Threaded, part_from};
+ghost use Rattle.mapping.specs.Lines.{whole_line, short_slot, Lent, part_from};
 
-use crate::lines::{Line, put_line, take_line};
-use crate::{Mark, Stretch, onward, spot, start, stretch_from};
+use crate::lines::{Line, along};
+use crate::{Mark, Stretch, spot};
+use interleaving::direction::{Back, There};
+use interleaving::second::Turns;
 
 // As many places as the room has.
 pub const SHORT: usize = 512;
@@ -38,13 +40,10 @@ fn fill(bits: &[u8], caps: &[u16], m: Mark, r: Stretch, frame: &mut [u8]) -> usi
     requires { Along caps.now 0 bits.now m r m.x m.k frame.old }
     ensures { Along caps.now 0 bits.now m r r.end result frame.new }
 {
-    let mut x = m.x;
     let mut k = m.k;
-    while x < r.end {
-        let to = spot(m.base, m.p, r.room, x);
-        frame[to] = bits[k];
+    for x in m.x..r.end {
+        frame[spot(m.base, m.p, r.room, x)] = bits[k];
         k += r.stride;
-        x += 1;
     }
     k
 }
@@ -54,13 +53,10 @@ fn empty(frame: &[f32], caps: &[u16], m: Mark, r: Stretch, bits: &mut [f32]) -> 
     requires { Along caps.now nan bits.old m r m.x m.k frame.now }
     ensures { Along caps.now nan bits.new m r r.end result frame.now }
 {
-    let mut x = m.x;
     let mut k = m.k;
-    while x < r.end {
-        let from = spot(m.base, m.p, r.room, x);
-        bits[k] = frame[from];
+    for x in m.x..r.end {
+        bits[k] = frame[spot(m.base, m.p, r.room, x)];
         k += r.stride;
-        x += 1;
     }
     k
 }
@@ -70,11 +66,11 @@ fn map_laid(bits: &[u8], caps: &[u16], frame: &mut [u8])
     requires { Slot caps.now (length bits.now) (length frame.old) × (length caps.now ≤ 16) }
     ensures { frame.new ≡ slot_of ones caps.now bits.now frame.old }
 {
-    let mut m = start(caps);
+    let mut m = Mark::start(caps);
     while m.p < caps.len() {
-        let r = stretch_from(caps, m);
+        let r = m.stretch(caps);
         let k = fill(bits, caps, m, r, frame);
-        m = onward(caps, m, r, k);
+        m = m.onward(caps, r, k);
     }
 }
 
@@ -83,78 +79,62 @@ fn unmap_laid(frame: &[f32], caps: &[u16], bits: &mut [f32])
     requires { Slot caps.now (length bits.old) (length frame.now) × (length caps.now ≤ 16) }
     ensures { bits.new ≡ slot_undone ones caps.now nan frame.now }
 {
-    let mut m = start(caps);
+    let mut m = Mark::start(caps);
     while m.p < caps.len() {
-        let r = stretch_from(caps, m);
+        let r = m.stretch(caps);
         let k = empty(frame, caps, m, r, bits);
-        m = onward(caps, m, r, k);
+        m = m.onward(caps, r, k);
     }
 }
 
 // Steps 8 and 9, the slot's bits in a room that is lent.
 fn map_between(
     bits: &[u8],
-    begins: &[usize; 31],
-    columns: &[u8; 30],
+    turns: &Turns,
     at: usize,
     caps: &[u16],
     room: &mut [u8],
     frame: &mut [u8],
 )
-    requires { Slot caps.now (length frame.old) (length frame.old) × (length caps.now ≤ 16) × (length frame.old ≤ length room.old) × Threaded (length bits.now) at (length frame.old) begins.now columns.now }
+    requires { Slot caps.now (length frame.old) (length frame.old) × (length caps.now ≤ 16) × (length frame.old ≤ length room.old) × Lent (length bits.now) at (length frame.old) turns.now }
     ensures { frame.new ≡ slot_of ones caps.now (part_from at (length frame.old) (second_interleaved bits.now)) frame.old }
 {
     let n = frame.len();
-    put_line(bits, begins, columns, at, whole_line(n), &mut room[..n]);
+    along::<There>(bits, turns, at, whole_line(n), &mut room[..n]);
     map_laid(&room[..n], caps, frame);
 }
 
 // Both undone.
 fn unmap_between(
     frame: &[f32],
-    begins: &[usize; 31],
-    columns: &[u8; 30],
+    turns: &Turns,
     at: usize,
     caps: &[u16],
     room: &mut [f32],
     values: &mut [f32],
 )
-    requires { Slot caps.now (length frame.now) (length frame.now) × (length caps.now ≤ 16) × (length frame.now ≤ length room.old) × Threaded (length values.old) at (length frame.now) begins.now columns.now }
+    requires { Slot caps.now (length frame.now) (length frame.now) × (length caps.now ≤ 16) × (length frame.now ≤ length room.old) × Lent (length values.old) at (length frame.now) turns.now }
     ensures { second_interleaved values.new ≡ put_mid at (length frame.now) (second_interleaved values.old) (slot_undone ones caps.now nan frame.now) }
 {
     let n = frame.len();
     unmap_laid(frame, caps, &mut room[..n]);
-    take_line(&room[..n], begins, columns, at, whole_line(n), values);
+    along::<Back>(&room[..n], turns, at, whole_line(n), values);
 }
 
 // Maps the bits of such a slot.
-pub fn map_short(
-    bits: &[u8],
-    begins: &[usize; 31],
-    columns: &[u8; 30],
-    at: usize,
-    caps: &[u16],
-    frame: &mut [u8],
-)
-    requires { Slot caps.now (length frame.old) (length frame.old) × (length caps.now ≤ 16) × (length frame.old ≤ short_slot) × Threaded (length bits.now) at (length frame.old) begins.now columns.now }
+pub fn map_short(bits: &[u8], turns: &Turns, at: usize, caps: &[u16], frame: &mut [u8])
+    requires { Slot caps.now (length frame.old) (length frame.old) × (length caps.now ≤ 16) × (length frame.old ≤ short_slot) × Lent (length bits.now) at (length frame.old) turns.now }
     ensures { frame.new ≡ slot_of ones caps.now (part_from at (length frame.old) (second_interleaved bits.now)) frame.old }
 {
     let mut room = [0u8; SHORT];
-    map_between(bits, begins, columns, at, caps, &mut room, frame);
+    map_between(bits, turns, at, caps, &mut room, frame);
 }
 
 // Takes the soft values of such a slot back to where its bits came from.
-pub fn unmap_short(
-    frame: &[f32],
-    begins: &[usize; 31],
-    columns: &[u8; 30],
-    at: usize,
-    caps: &[u16],
-    values: &mut [f32],
-)
-    requires { Slot caps.now (length frame.now) (length frame.now) × (length caps.now ≤ 16) × (length frame.now ≤ short_slot) × Threaded (length values.old) at (length frame.now) begins.now columns.now }
+pub fn unmap_short(frame: &[f32], turns: &Turns, at: usize, caps: &[u16], values: &mut [f32])
+    requires { Slot caps.now (length frame.now) (length frame.now) × (length caps.now ≤ 16) × (length frame.now ≤ short_slot) × Lent (length values.old) at (length frame.now) turns.now }
     ensures { second_interleaved values.new ≡ put_mid at (length frame.now) (second_interleaved values.old) (slot_undone ones caps.now nan frame.now) }
 {
     let mut room = [1.0f32; SHORT];
-    unmap_between(frame, begins, columns, at, caps, &mut room, values);
+    unmap_between(frame, turns, at, caps, &mut room, values);
 }

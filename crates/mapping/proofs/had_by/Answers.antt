@@ -17,4 +17,4 @@ returns c =
     let a = c.args in
     let h = had-other (at a.caps.now) (in_runs a.runs.first a.runs.other) a.p a.turn a.q c.if-q-p.false in
     let e = c.capacity.ensures.0 in
-    (rw (h, ← e, ← c.turns_had.ensures.0, ← c.run_of.ensures.0) c.lesser.ensures, omega arith)
+    (rw (h, ← e, ← c.turns_had.ensures.0, ← c.run_of.ensures.0) c.min.ensures, omega arith)

@@ -2,16 +2,14 @@ use Rattle.std.proofs.Common.{◌≡◌, length, arith}
 use Rattle.mapping.proofs.StrideLaws.{least_more}
 use Rattle.mapping.proofs.least.Goals as goal
 
-pub loop-q-init : goal.loop-q-init
-loop-q-init c = (omega arith, record { all = λ q l. absurd (omega arith); small = omega arith })
+pub loop-cap-init : goal.loop-cap-init
+loop-cap-init c = record { all = λ q l. absurd (omega arith); small = omega arith }
 
-pub loop-q-preserved : goal.loop-q-preserved
-loop-q-preserved c =
-    let l = c.loop-q in
-    (omega arith, rw (c.lesser-m.ensures, c.capacity.ensures.0) (least_more c.args.caps.now l.q l.m l.invariant.1))
+pub loop-cap-preserved : goal.loop-cap-preserved
+loop-cap-preserved c = let l = c.loop-cap in rw (c.min-m.ensures, c.from.ensures) (least_more c.args.caps.now l.cap-index l.m l.invariant)
 
 pub returns : goal.returns
 returns c =
-    let l = c.loop-q in
-    let e : l.q ≡ length c.args.caps.now = omega arith in
-    rw e at l.invariant.1
+    let l = c.loop-cap in
+    let e : l.cap-index ≡ length c.args.caps.now = omega arith in
+    rw e at l.invariant

@@ -7,7 +7,7 @@ use Rattle.mapping.specs.declared.lines.Line.{Line}
 use Rattle.mapping.proofs.WalkLaws.{along_starts, standing_starts, standing_next, standing_slot}
 use Rattle.mapping.proofs.LineLaws.{part_length, copied-length, within_span}
 use Rattle.mapping.proofs.AlongLaws.{stretch_within, through_put}
-use Rattle.mapping.proofs.map_ones.Goals.{After-line_along-l, Start}
+use Rattle.mapping.proofs.map_ones.Goals.{After-line-l, Start}
 use Rattle.mapping.proofs.map_ones.Goals as goal
 
 -- the slot's bits
@@ -18,49 +18,49 @@ sized c =
     (omega (arith, second-length c.args.bits.now, c.requires.2.inside))
 
 -- a stretch, and the line that it is
-module _ (c : After-line_along-l) where
-  along : Along c.args.caps.now 0 (part_from c.args.at (length c.args.frame.now) (second_interleaved c.args.bits.now)) c.loop-m.m c.stretch_from-r.result c.loop-m.m.x c.loop-m.m.k c.loop-m.frame
-  along = along_starts c.loop-m.invariant.0 c.stretch_from-r.ensures
+module _ (c : After-line-l) where
+  going : Along c.args.caps.now 0 (part_from c.args.at (length c.args.frame.now) (second_interleaved c.args.bits.now)) c.loop-m.m c.stretch-r.result c.loop-m.m.x c.loop-m.m.k c.loop-m.frame
+  going = along_starts c.loop-m.invariant.0 c.stretch-r.ensures
 
-  inside : Within (length c.args.frame.now) (length c.loop-m.frame) (line_along c.loop-m.m c.stretch_from-r.result)
-  inside = stretch_within along (sized (goal.at-After-line_along-l c).Start) (omega (arith, c.requires.2.inside, c.requires.2.most)) c.requires.1
+  inside : Within (length c.args.frame.now) (length c.loop-m.frame) (line_along c.loop-m.m c.stretch-r.result)
+  inside = stretch_within going (sized (goal.at-After-line-l c).Start) (omega (arith, c.requires.2.inside, c.requires.2.all, c.args.turns.now.few)) c.requires.1
 
 pub start-m-requires : goal.start-m-requires
-start-m-requires c = let p = c.requires in omega (arith, p.0.bits, p.1, p.2.inside, p.2.most)
+start-m-requires c = let p = c.requires in omega (arith, p.0.bits, p.1, p.2.inside, p.2.all, c.args.turns.now.few)
 
 pub loop-m-init : goal.loop-m-init
 loop-m-init c = (standing_starts c.start-m.ensures (record { bits = sized (goal.at.loop-m-init c).Start ∙ c.requires.0.bits; room = c.requires.0.room }), refl)
 
-pub stretch_from-r-requires : goal.stretch_from-r-requires
-stretch_from-r-requires c = (c.loop-m.invariant.0.mark, omega arith)
+pub stretch-r-requires : goal.stretch-r-requires
+stretch-r-requires c = (c.loop-m.invariant.0.mark, omega arith)
 
-pub line_along-l-requires : goal.line_along-l-requires
-line_along-l-requires c = c.stretch_from-r.ensures.steps.from
+pub line-l-requires : goal.line-l-requires
+line-l-requires c = c.stretch-r.ensures.steps.from
 
-pub put_line-requires : goal.put_line-requires
-put_line-requires c = rw (c.line_along-l.ensures, c.loop-m.invariant.1) (rw c.loop-m.invariant.1 at (inside (goal.at.put_line-requires c).After-line_along-l), c.requires.2)
+pub along-requires : goal.along-requires
+along-requires c = rw (c.line-l.ensures, c.loop-m.invariant.1) (rw c.loop-m.invariant.1 at (inside (goal.at.along-requires c).After-line-l), c.requires.2)
 
 pub overflow_mul-l : goal.overflow_mul-l
-overflow_mul-l c = rw c.line_along-l.ensures (omega (arith, within_span (inside (goal.at.overflow_mul-l c).After-line_along-l), c.requires.2.inside, c.requires.2.most))
+overflow_mul-l c = rw c.line-l.ensures (omega (arith, within_span (inside (goal.at.overflow_mul-l c).After-line-l), c.requires.2.inside, c.requires.2.all, c.args.turns.now.few))
 
 pub overflow_add-m : goal.overflow_add-m
 overflow_add-m c =
-    rw c.line_along-l.ensures
-    (omega (arith, within_span (inside (goal.at.overflow_add-m c).After-line_along-l), (along (goal.at.overflow_add-m c).After-line_along-l).leg.mark.fits, c.requires.0.bits, c.requires.2.inside, c.requires.2.most))
+    rw c.line-l.ensures
+    (omega (arith, within_span (inside (goal.at.overflow_add-m c).After-line-l), (going (goal.at.overflow_add-m c).After-line-l).leg.mark.fits, c.requires.0.bits, c.requires.2.inside, c.requires.2.all, c.args.turns.now.few))
 
 pub onward-m-requires : goal.onward-m-requires
 onward-m-requires c =
-    let a = through_put (along (goal.at.onward-m-requires c).After-line_along-l) (second_interleaved c.args.bits.now) c.args.at _ refl (inside (goal.at.onward-m-requires c).After-line_along-l) c.line_along-l.ensures c.put_line.ensures in
-    (a.leg, λ h. ap (λ (x : Line). c.loop-m.m.k + x.count * c.stretch_from-r.result.stride) c.line_along-l.ensures ∙ a.bit h)
+    let a = through_put (going (goal.at.onward-m-requires c).After-line-l) (second_interleaved c.args.bits.now) c.args.at _ refl (inside (goal.at.onward-m-requires c).After-line-l) c.line-l.ensures c.along.ensures in
+    (a.leg, λ h. ap (λ (x : Line). c.loop-m.m.k + x.count * c.stretch-r.result.stride) c.line-l.ensures ∙ a.bit h)
 
 pub loop-m-smaller : goal.loop-m-smaller
 loop-m-smaller c = c.onward-m.ensures.nearer
 
 pub loop-m-preserved : goal.loop-m-preserved
 loop-m-preserved c =
-    let e = c.put_line.ensures in (
-      standing_next (through_put (along (goal.at.loop-m-preserved c).After-line_along-l) (second_interleaved c.args.bits.now) c.args.at _ refl (inside (goal.at.loop-m-preserved c).After-line_along-l) c.line_along-l.ensures e) c.onward-m.ensures,
-      ap length e ∙ copied-length 0 _ _ _ _ c.line_along-l.result.count ∙ c.loop-m.invariant.1,
+    let e = c.along.ensures in (
+      standing_next (through_put (going (goal.at.loop-m-preserved c).After-line-l) (second_interleaved c.args.bits.now) c.args.at _ refl (inside (goal.at.loop-m-preserved c).After-line-l) c.line-l.ensures e) c.onward-m.ensures,
+      ap length e ∙ copied-length 0 _ _ _ _ c.line-l.result.count ∙ c.loop-m.invariant.1,
     )
 
 pub shape_of-frame : goal.shape_of-frame

@@ -31,7 +31,7 @@ returns-then-is_threefold c =
 pub map_pair-requires : goal.map_pair-requires
 map_pair-requires c =
     let p = c.requires in
-    (coded_pair p.0 c.if-runs-ne2.true, record { begun = c.begin_turns-begins.ensures; ordered = c.columns-order.ensures; inside = p.1; most = p.2 })
+    (coded_pair p.0 c.if-runs-ne2.true, record { all = c.of-turns.ensures; inside = p.1 })
 
 pub returns-then-bits-caps : goal.returns-then-bits-caps
 returns-then-bits-caps c =

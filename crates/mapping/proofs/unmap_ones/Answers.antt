@@ -9,7 +9,7 @@ use Rattle.mapping.specs.declared.lines.Line.{Line}
 use Rattle.mapping.proofs.WalkLaws.{along_starts, standing_starts, standing_next, standing_bits}
 use Rattle.mapping.proofs.LineLaws.{over_starts, part_length, within_span}
 use Rattle.mapping.proofs.AlongLaws.{stretch_within, through-take, through_over}
-use Rattle.mapping.proofs.unmap_ones.Goals.{After-line_along-l, Start}
+use Rattle.mapping.proofs.unmap_ones.Goals.{After-line-l, Start}
 use Rattle.mapping.proofs.unmap_ones.Goals as goal
 
 -- the slot's values lie within the others
@@ -17,17 +17,17 @@ fits : (c : Start) → c.args.at + length c.args.frame.now ≤ length (second_in
 fits c = omega (arith, second-length c.args.values.now, c.requires.2.inside)
 
 -- a stretch, and the line that it is
-module _ (c : After-line_along-l) where
-  along : Along c.args.caps.now nan (part_from c.args.at (length c.args.frame.now) (second_interleaved c.loop-m.values)) c.loop-m.m c.stretch_from-r.result c.loop-m.m.x c.loop-m.m.k c.args.frame.now
-  along = along_starts c.loop-m.invariant.0 c.stretch_from-r.ensures
+module _ (c : After-line-l) where
+  going : Along c.args.caps.now nan (part_from c.args.at (length c.args.frame.now) (second_interleaved c.loop-m.values)) c.loop-m.m c.stretch-r.result c.loop-m.m.x c.loop-m.m.k c.args.frame.now
+  going = along_starts c.loop-m.invariant.0 c.stretch-r.ensures
 
-  inside : Within (length c.args.frame.now) (length c.args.frame.now) (line_along c.loop-m.m c.stretch_from-r.result)
+  inside : Within (length c.args.frame.now) (length c.args.frame.now) (line_along c.loop-m.m c.stretch-r.result)
   inside =
-      stretch_within along (part_length (second_interleaved c.loop-m.values) c.args.at _ c.loop-m.invariant.1.fits)
-      (omega (arith, c.requires.2.inside, c.requires.2.most)) c.requires.1
+      stretch_within going (part_length (second_interleaved c.loop-m.values) c.args.at _ c.loop-m.invariant.1.fits)
+      (omega (arith, c.requires.2.inside, c.requires.2.all, c.args.turns.now.few)) c.requires.1
 
 pub start-m-requires : goal.start-m-requires
-start-m-requires c = let p = c.requires in omega (arith, p.0.bits, p.1, p.2.inside, p.2.most)
+start-m-requires c = let p = c.requires in omega (arith, p.0.bits, p.1, p.2.inside, p.2.all, c.args.turns.now.few)
 
 pub loop-m-init : goal.loop-m-init
 loop-m-init c = (
@@ -36,38 +36,38 @@ loop-m-init c = (
   refl,
 )
 
-pub stretch_from-r-requires : goal.stretch_from-r-requires
-stretch_from-r-requires c = (c.loop-m.invariant.0.mark, omega arith)
+pub stretch-r-requires : goal.stretch-r-requires
+stretch-r-requires c = (c.loop-m.invariant.0.mark, omega arith)
 
-pub line_along-l-requires : goal.line_along-l-requires
-line_along-l-requires c = c.stretch_from-r.ensures.steps.from
+pub line-l-requires : goal.line-l-requires
+line-l-requires c = c.stretch-r.ensures.steps.from
 
-pub take_line-requires : goal.take_line-requires
-take_line-requires c = rw (c.line_along-l.ensures, c.loop-m.invariant.2) (inside (goal.at.take_line-requires c).After-line_along-l, c.requires.2)
+pub along-requires : goal.along-requires
+along-requires c = rw (c.line-l.ensures, c.loop-m.invariant.2) (inside (goal.at.along-requires c).After-line-l, c.requires.2)
 
 pub overflow_mul-l : goal.overflow_mul-l
-overflow_mul-l c = rw c.line_along-l.ensures (omega (arith, within_span (inside (goal.at.overflow_mul-l c).After-line_along-l), c.requires.2.inside, c.requires.2.most))
+overflow_mul-l c = rw c.line-l.ensures (omega (arith, within_span (inside (goal.at.overflow_mul-l c).After-line-l), c.requires.2.inside, c.requires.2.all, c.args.turns.now.few))
 
 pub overflow_add-m : goal.overflow_add-m
 overflow_add-m c =
-    rw c.line_along-l.ensures
-    (omega (arith, within_span (inside (goal.at.overflow_add-m c).After-line_along-l), (along (goal.at.overflow_add-m c).After-line_along-l).leg.mark.fits, c.requires.0.bits, c.requires.2.inside, c.requires.2.most))
+    rw c.line-l.ensures
+    (omega (arith, within_span (inside (goal.at.overflow_add-m c).After-line-l), (going (goal.at.overflow_add-m c).After-line-l).leg.mark.fits, c.requires.0.bits, c.requires.2.inside, c.requires.2.all, c.args.turns.now.few))
 
 pub onward-m-requires : goal.onward-m-requires
 onward-m-requires c =
     let a =
-    through-take (along (goal.at.onward-m-requires c).After-line_along-l) (second_interleaved c.loop-m.values) c.args.at _ refl (inside (goal.at.onward-m-requires c).After-line_along-l) c.line_along-l.ensures (fits (goal.at.onward-m-requires c).Start) c.loop-m.invariant.1 c.take_line.ensures in
-    (a.leg, λ h. ap (λ (x : Line). c.loop-m.m.k + x.count * c.stretch_from-r.result.stride) c.line_along-l.ensures ∙ a.bit h)
+    through-take (going (goal.at.onward-m-requires c).After-line-l) (second_interleaved c.loop-m.values) c.args.at _ refl (inside (goal.at.onward-m-requires c).After-line-l) c.line-l.ensures (fits (goal.at.onward-m-requires c).Start) c.loop-m.invariant.1 c.along.ensures in
+    (a.leg, λ h. ap (λ (x : Line). c.loop-m.m.k + x.count * c.stretch-r.result.stride) c.line-l.ensures ∙ a.bit h)
 
 pub loop-m-smaller : goal.loop-m-smaller
 loop-m-smaller c = c.onward-m.ensures.nearer
 
 pub loop-m-preserved : goal.loop-m-preserved
 loop-m-preserved c =
-    let e = c.take_line.ensures in
+    let e = c.along.ensures in
     let S = second_interleaved c.loop-m.values in (
-      standing_next (through-take (along (goal.at.loop-m-preserved c).After-line_along-l) S c.args.at _ refl (inside (goal.at.loop-m-preserved c).After-line_along-l) c.line_along-l.ensures (fits (goal.at.loop-m-preserved c).Start) c.loop-m.invariant.1 e) c.onward-m.ensures,
-      through_over (along (goal.at.loop-m-preserved c).After-line_along-l) S c.args.at _ refl (inside (goal.at.loop-m-preserved c).After-line_along-l) c.line_along-l.ensures (fits (goal.at.loop-m-preserved c).Start) c.loop-m.invariant.1 e,
+      standing_next (through-take (going (goal.at.loop-m-preserved c).After-line-l) S c.args.at _ refl (inside (goal.at.loop-m-preserved c).After-line-l) c.line-l.ensures (fits (goal.at.loop-m-preserved c).Start) c.loop-m.invariant.1 e) c.onward-m.ensures,
+      through_over (going (goal.at.loop-m-preserved c).After-line-l) S c.args.at _ refl (inside (goal.at.loop-m-preserved c).After-line-l) c.line-l.ensures (fits (goal.at.loop-m-preserved c).Start) c.loop-m.invariant.1 e,
       c.values-1.given ∙ c.loop-m.invariant.2,
     )
 

@@ -19,7 +19,7 @@ returns-then-frame-values c =
 pub unmap_pair-requires : goal.unmap_pair-requires
 unmap_pair-requires c =
     let p = c.requires in
-    (coded_pair p.0 c.if-runs-ne2.true, record { begun = c.begin_turns-begins.ensures; ordered = c.columns-order.ensures; inside = p.1; most = p.2 })
+    (coded_pair p.0 c.if-runs-ne2.true, record { all = c.of-turns.ensures; inside = p.1 })
 
 pub returns-then-values-caps : goal.returns-then-values-caps
 returns-then-values-caps c =

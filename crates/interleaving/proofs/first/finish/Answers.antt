@@ -7,11 +7,11 @@ use lib.ListN.{length, get_or}
 use Rattle.sheet.specs.Sizes.{frames_in}
 use Rattle.orders.specs.Orders.{column_at}
 use Rattle.interleaving.proofs.FinishWalk.{starts, resized, enters, long, reads_in, put, leaves, ends}
-use Rattle.interleaving.proofs.first.finish.Goals.{In-loop-k}
+use Rattle.interleaving.proofs.first.finish.Goals.{In-loop-k, else-loop-k-test, then-loop-k-test+else-f-k-end}
 use Rattle.interleaving.proofs.first.finish.Goals as goal
 
 pub loop-s-init : goal.loop-s-init
-loop-s-init c = (omega arith, starts c.args.part.now c.args.tti c.args.n c.args.out.now c.requires)
+loop-s-init c = starts c.args.part.now c.args.tti c.args.n c.args.out.now c.requires
 
 pub overflow_mul-i : goal.overflow_mul-i
 overflow_mul-i c =
@@ -22,8 +22,8 @@ pub loop-k-init : goal.loop-k-init
 unfolding column_at
 loop-k-init c =
     let l = c.loop-s in
-    let w = l.invariant.1 in
-    enters (resized w (sym w.filling.long)) (omega (arith, c.frames-f.ensures.0)) (c.wide-p.ensures ∙ ap (λ (r : List ℕ). get_or r l.s 0) c.row-row.ensures)
+    let w = l.invariant in
+    enters (resized w (sym w.filling.long)) (omega (arith, c.frames-f.ensures.0)) (c.from-p.ensures ∙ ap (λ (r : List ℕ). get_or r l.s 0) c.row-row.ensures)
 
 -- what is read stands in part
 inside : (c : In-loop-k) → c.loop-k.i < length c.args.part.now
@@ -38,9 +38,6 @@ bounds-part-i c = inside (goal.at.bounds-part-i c).In-loop-k
 pub overflow_add-i : goal.overflow_add-i
 overflow_add-i c = omega (arith, inside (goal.at.overflow_add-i c).In-loop-k)
 
-pub overflow_add-k : goal.overflow_add-k
-overflow_add-k c = omega (arith, c.frames-f.ensures.2)
-
 pub loop-k-smaller : goal.loop-k-smaller
 loop-k-smaller c = omega (arith, long c.loop-k.invariant, c.frames-f.ensures.1)
 
@@ -52,12 +49,17 @@ loop-k-preserved c =
 pub loop-s-preserved : goal.loop-s-preserved
 loop-s-preserved c =
     let g = c.loop-k.invariant in
-    (omega arith, resized (leaves g (omega (arith, long g))) c.loop-s.invariant.1.filling.long)
+    let e = c.loop-s.invariant.filling.long in
+    elim c.loop-k-test.branch [
+      | else-loop-k-test w ↦ rw w.out-is (resized (leaves g (omega (arith, long g))) e)
+      | then-loop-k-test+else-f-k-end w ↦
+          rw w.out-is (resized (leaves (put g (omega (arith, long g)) c.frames-f.ensures.0) (omega (arith, long g))) e)
+    ]
 
 pub shape_of-out : goal.shape_of-out
-shape_of-out c = c.loop-s.invariant.1.filling.long
+shape_of-out c = c.loop-s.invariant.filling.long
 
 pub returns : goal.returns
 returns c =
     let l = c.loop-s in
-    ends l.invariant.1 (omega (arith, c.frames-f.ensures.0))
+    ends l.invariant (omega (arith, c.frames-f.ensures.0))

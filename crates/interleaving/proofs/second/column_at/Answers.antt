@@ -1,10 +1,11 @@
-use native.Mathlib.Omega.{arith}
-use mathlib.Core.Path.{refl}
+use Rattle.std.proofs.Common.{◌≡◌, ℕ, get_or, ap, ◌∙◌, arith}
+use mathlib.Core.List.{List}
+use Rattle.orders.specs.Orders.{order}
 use Rattle.orders.proofs.OrderLaws.{order-turn}
 use Rattle.interleaving.proofs.second.column_at.Goals as goal
 
-pub overflow_cast-result : goal.overflow_cast-result
-overflow_cast-result c = rw c.requires.0 (omega (arith, (order-turn c.args.t c.requires.1).0))
-
 pub returns : goal.returns
-returns c = rw c.requires.0 (refl, (order-turn c.args.t c.requires.1).0)
+returns c =
+    let t = c.args.t in
+    let e : c.from.result ≡ get_or order t 0 = c.from.ensures ∙ ap (λ (l : List ℕ). get_or l t 0) c.requires.0 in
+    (e, omega (arith, (order-turn t c.requires.1).0))

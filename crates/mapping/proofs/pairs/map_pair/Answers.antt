@@ -4,7 +4,7 @@ use Rattle.interleaving.proofs.SecondLaws.{second-length}
 use Rattle.mapping.specs.Lines.{bit_on, spot_on, Within, part_from}
 use Rattle.mapping.proofs.LineLaws.{stood_none, line_put, line-within, part_length, copied-part}
 use Rattle.mapping.proofs.SlotLaws.{slot-total, pair_slot}
-use Rattle.mapping.proofs.pairs.map_pair.Goals.{After-line_of-l, Start}
+use Rattle.mapping.proofs.pairs.map_pair.Goals.{After-line, Start}
 use Rattle.mapping.proofs.pairs.map_pair.Goals as goal
 
 -- the slot's bits
@@ -15,34 +15,34 @@ sized c =
     (omega (arith, second-length c.args.bits.now, c.requires.1.inside))
 
 -- a line lies within them
-module _ (c : After-line_of-l) where
-  inside : Within (length c.args.frame.now) (length c.args.frame.now) c.line_of-l.result
+module _ (c : After-line) where
+  inside : Within (length c.args.frame.now) (length c.args.frame.now) c.line.result
   inside =
       let l = c.loop-j in
-      rw (sized (goal.at-After-line_of-l c).Start, l.invariant.1) at (line-within c.pair_of-t.ensures.fit _ _ c.line_of-l.ensures l.invariant.0)
+      rw (sized (goal.at-After-line c).Start, l.invariant.1) at (line-within c.of-t.ensures.fit _ _ c.line.ensures l.invariant.0)
 
-pub pair_of-t-requires : goal.pair_of-t-requires
-pair_of-t-requires c = c.requires.0.runs
+pub of-t-requires : goal.of-t-requires
+of-t-requires c = c.requires.0.runs
 
 pub loop-j-init : goal.loop-j-init
 loop-j-init c =
-    let e = slot-total c.pair_of-t.ensures c.requires.0.few in
-    (stood_none c.pair_of-t.ensures.fit (sized (goal.at.loop-j-init c).Start ∙ c.requires.0.slot.bits ∙ e) (c.requires.0.slot.room ∙ e), refl)
+    let e = slot-total c.of-t.ensures c.requires.0.few in
+    (stood_none c.of-t.ensures.fit (sized (goal.at.loop-j-init c).Start ∙ c.requires.0.slot.bits ∙ e) (c.requires.0.slot.room ∙ e), refl)
 
-pub line_of-l-requires : goal.line_of-l-requires
-line_of-l-requires c = let t = c.pair_of-t.ensures in (t.fit, omega (arith, t.run, t.other))
+pub line-requires : goal.line-requires
+line-requires c = let t = c.of-t.ensures in (t.fit, omega (arith, t.run, t.other))
 
-pub put_line-requires : goal.put_line-requires
-put_line-requires c = rw c.loop-j.invariant.1 (inside (goal.at.put_line-requires c).After-line_of-l, c.requires.1)
+pub along-requires : goal.along-requires
+along-requires c = rw c.loop-j.invariant.1 (inside (goal.at.along-requires c).After-line, c.requires.1)
 
 pub loop-j-preserved : goal.loop-j-preserved
 loop-j-preserved c =
     let s = (goal.at.loop-j-preserved c).Start in
-    let l = c.line_of-l.result in
+    let l = c.line.result in
     let o = c.loop-j in
-    let e = c.put_line.ensures in (
-      line_put c.pair_of-t.ensures.fit _ _ c.line_of-l.ensures o.invariant.0
-          (e ∙ copied-part 0 (bit_on l) (spot_on l) s.args.at _ (second_interleaved s.args.bits.now) o.frame l.count (inside (goal.at.loop-j-preserved c).After-line_of-l).given),
+    let e = c.along.ensures in (
+      line_put c.of-t.ensures.fit _ _ c.line.ensures o.invariant.0
+          (e ∙ copied-part 0 (bit_on l) (spot_on l) s.args.at _ (second_interleaved s.args.bits.now) o.frame l.count (inside (goal.at.loop-j-preserved c).After-line).given),
       c.frame-1.given ∙ o.invariant.1,
     )
 
@@ -51,5 +51,5 @@ shape_of-frame c = c.loop-j.invariant.1
 
 pub returns : goal.returns
 returns c =
-    let t = c.pair_of-t.ensures in
+    let t = c.of-t.ensures in
     pair_slot t c.requires.0.few c.loop-j.invariant.0 (omega (arith, t.run, t.other)) c.args.frame.now c.requires.0.slot.room

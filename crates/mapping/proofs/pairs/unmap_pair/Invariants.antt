@@ -1,4 +1,4 @@
-use Rattle.std.proofs.Common.{◌≡◌, ◌-◌, length}
+use Rattle.std.proofs.Common.{◌≡◌, length}
 use lib.Ieee.{nan}
 use Rattle.interleaving.specs.Second.{second_interleaved}
 use Rattle.mapping.specs.Lines.{part_from}
@@ -10,6 +10,3 @@ invariant-loop-j l =
     Stood l.t nan (part_from l.at (length l.frame) (second_interleaved l.values)) (On l.t l.j) l.frame
     × Over l.at (length l.frame) (second_interleaved l.initial.values) (second_interleaved l.values)
     × (length l.values ≡ length l.initial.values)
-
-abbrev pub decreases-loop-j : goal.decreases-loop-j
-decreases-loop-j l = l.n - l.j

@@ -5,4 +5,4 @@ use Rattle.mapping.proofs.rounds.start.Goals as goal
 pub returns : goal.returns
 returns c =
     let p = c.requires in
-    (refl, handed_starts p.0 p.1 p.2 refl (refl, refl) (ap (λ (n : ℕ). 2 * c.args.u - n) c.lesser.ensures, c.wrapping_sub_usize.ensures.value) (refl, refl))
+    (refl, handed_starts p.0 p.1 p.2 refl (refl, refl) (ap (λ (n : ℕ). 2 * c.args.u - n) c.min.ensures, c.wrapping_sub_usize.ensures.value) (refl, refl))

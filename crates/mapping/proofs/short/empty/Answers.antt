@@ -5,14 +5,14 @@ use Rattle.mapping.proofs.short.empty.Goals as goal
 pub loop-x-init : goal.loop-x-init
 loop-x-init c = c.requires
 
-pub spot-from-requires : goal.spot-from-requires
-spot-from-requires c = let a = c.loop-x.invariant in (along_room a (omega arith), base_fits a.leg)
+pub spot-requires : goal.spot-requires
+spot-requires c = let a = c.loop-x.invariant in (along_room a (omega arith), base_fits a.leg)
 
-pub offset_bounds-frame-from : goal.offset_bounds-frame-from
-offset_bounds-frame-from c = omega (arith, along_place c.loop-x.invariant (omega arith) c.spot-from.ensures.1)
+pub offset_bounds-frame-spot : goal.offset_bounds-frame-spot
+offset_bounds-frame-spot c = omega (arith, along_place c.loop-x.invariant (omega arith) c.spot.ensures.1)
 
-pub bounds-frame-from : goal.bounds-frame-from
-bounds-frame-from c = along_place c.loop-x.invariant (omega arith) c.spot-from.ensures.1
+pub bounds-frame-spot : goal.bounds-frame-spot
+bounds-frame-spot c = along_place c.loop-x.invariant (omega arith) c.spot.ensures.1
 
 pub offset_bounds-bits-k : goal.offset_bounds-bits-k
 offset_bounds-bits-k c = omega (arith, along_bit c.loop-x.invariant (omega arith))
@@ -24,7 +24,7 @@ pub overflow_add-k : goal.overflow_add-k
 overflow_add-k c = omega (arith, along_fits c.loop-x.invariant (omega arith))
 
 pub loop-x-preserved : goal.loop-x-preserved
-loop-x-preserved c = along_take c.loop-x.invariant (omega arith) _ c.spot-from.ensures.0
+loop-x-preserved c = along_take c.loop-x.invariant (omega arith) _ c.spot.ensures.0
 
 pub shape_of-bits : goal.shape_of-bits
 shape_of-bits c = c.loop-x.invariant.done.count ∙ sym c.requires.done.count

@@ -1,10 +1,6 @@
-use Rattle.std.proofs.Common.{◌-◌}
 use lib.Ieee.{nan}
 use Rattle.mapping.specs.Strides.{Along}
 use Rattle.mapping.proofs.short.empty.Given as goal
 
 abbrev pub invariant-loop-x : goal.invariant-loop-x
 invariant-loop-x l = Along l.caps nan l.bits l.m l.r l.x l.k l.frame
-
-abbrev pub decreases-loop-x : goal.decreases-loop-x
-decreases-loop-x l = l.r.end - l.x

@@ -5,20 +5,20 @@ use Rattle.mapping.proofs.short.fill.Goals as goal
 pub loop-x-init : goal.loop-x-init
 loop-x-init c = c.requires
 
-pub spot-to-requires : goal.spot-to-requires
-spot-to-requires c = let a = c.loop-x.invariant in (along_room a (omega arith), base_fits a.leg)
+pub spot-requires : goal.spot-requires
+spot-requires c = let a = c.loop-x.invariant in (along_room a (omega arith), base_fits a.leg)
 
 pub bounds-bits-k : goal.bounds-bits-k
 bounds-bits-k c = along_bit c.loop-x.invariant (omega arith)
 
-pub bounds-frame-to : goal.bounds-frame-to
-bounds-frame-to c = along_place c.loop-x.invariant (omega arith) c.spot-to.ensures.1
+pub bounds-frame-spot : goal.bounds-frame-spot
+bounds-frame-spot c = along_place c.loop-x.invariant (omega arith) c.spot.ensures.1
 
 pub overflow_add-k : goal.overflow_add-k
 overflow_add-k c = omega (arith, along_fits c.loop-x.invariant (omega arith))
 
 pub loop-x-preserved : goal.loop-x-preserved
-loop-x-preserved c = along_put c.loop-x.invariant (omega arith) _ c.spot-to.ensures.0
+loop-x-preserved c = along_put c.loop-x.invariant (omega arith) _ c.spot.ensures.0
 
 pub shape_of-frame : goal.shape_of-frame
 shape_of-frame c = c.loop-x.invariant.done.room ∙ sym c.requires.done.room

@@ -26,13 +26,13 @@ slice_bounds-unmap_laid-end-2 c = sym (length-take-le _ _ c.requires.2)
 pub unmap_laid-requires : goal.unmap_laid-requires
 unmap_laid-requires c = (record { bits = length-take-le _ _ c.requires.2 ∙ c.requires.0.bits; room = c.requires.0.room }, c.requires.1)
 
-pub slice_bounds-take_line-end-2 : goal.slice_bounds-take_line-end-2
-slice_bounds-take_line-end-2 c = sym (ap (λ (l : List Float). length l) (front (goal.at.slice_bounds-take_line-end-2 c).After-unmap_laid) ∙ full (goal.at.slice_bounds-take_line-end-2 c).After-unmap_laid)
+pub slice_bounds-along-end-2 : goal.slice_bounds-along-end-2
+slice_bounds-along-end-2 c = sym (ap (λ (l : List Float). length l) (front (goal.at.slice_bounds-along-end-2 c).After-unmap_laid) ∙ full (goal.at.slice_bounds-along-end-2 c).After-unmap_laid)
 
-pub take_line-requires : goal.take_line-requires
-take_line-requires c =
-    let e = ap (λ (l : List Float). length l) (front (goal.at.take_line-requires c).After-unmap_laid) ∙ full (goal.at.take_line-requires c).After-unmap_laid in
-    rw (e, c.whole_line.ensures) (whole-within _ (omega (arith, c.requires.3.inside, c.requires.3.most)), c.requires.3)
+pub along-requires : goal.along-requires
+along-requires c =
+    let e = ap (λ (l : List Float). length l) (front (goal.at.along-requires c).After-unmap_laid) ∙ full (goal.at.along-requires c).After-unmap_laid in
+    rw (e, c.whole_line.ensures) (whole-within _ (omega (arith, c.requires.3.inside, c.requires.3.all, c.args.turns.now.few)), c.requires.3)
 
 pub returns : goal.returns
 returns c =
@@ -40,7 +40,7 @@ returns c =
     let S = second_interleaved a.values.now in
     let n = length a.frame.now in
     let v = take n (laid (goal.at.returns c).After-unmap_laid ++ drop n a.room.now) in
-    c.take_line.ensures
+    c.along.ensures
     ∙ ap (λ (l : Line). copied nan (spot_on l) (index_on a.at l) v l.count S) c.whole_line.ensures
     ∙ whole_take nan a.at n S v (omega (arith, second-length a.values.now, c.requires.3.inside)) (ap (λ (l : List Float). length l) (front (goal.at.returns c).After-unmap_laid) ∙ full (goal.at.returns c).After-unmap_laid)
     ∙ ap (put_mid a.at n S) (front (goal.at.returns c).After-unmap_laid ∙ c.unmap_laid.ensures)

@@ -8,11 +8,11 @@ start-m-requires c = let p = c.requires in omega (arith, p.0.bits, p.1)
 pub loop-m-init : goal.loop-m-init
 loop-m-init c = standing_starts c.start-m.ensures c.requires.0
 
-pub stretch_from-r-requires : goal.stretch_from-r-requires
-stretch_from-r-requires c = (c.loop-m.invariant.mark, omega arith)
+pub stretch-r-requires : goal.stretch-r-requires
+stretch-r-requires c = (c.loop-m.invariant.mark, omega arith)
 
 pub empty-k-requires : goal.empty-k-requires
-empty-k-requires c = along_starts c.loop-m.invariant c.stretch_from-r.ensures
+empty-k-requires c = along_starts c.loop-m.invariant c.stretch-r.ensures
 
 pub onward-m-requires : goal.onward-m-requires
 onward-m-requires c = let a = c.empty-k.ensures in (a.leg, a.bit)

@@ -1,0 +1,40 @@
+-- Laws of a direction through step 8: what goes between a seat and a place goes, once step 8 is done, between the seat's index and the place.
+use Rattle.std.proofs.Common.{◌≡◌, ℕ, ◌<◌, List, length, get_or, set, sym, refl, ap, ⊎_elim}
+use Rattle.interleaving.specs.Second.{second_interleaved, comes_from}
+use Rattle.interleaving.specs.Directions.{Directed}
+use Rattle.interleaving.proofs.SecondLaws.{second_at, second-length, second-set}
+
+pub record DirectionLaws {A : Type 0} (seen made : List A → List A) (reads writes : ℕ → ℕ → ℕ) : Type 0 where
+  pub seen_long : (xs : List A) → length (seen xs) ≡ length xs
+  pub made_long : (xs : List A) → length (made xs) ≡ length xs
+  pub either : (i j : ℕ) → (reads (reads i j) (writes i j) ≡ i) × (writes (reads i j) (writes i j) ≡ j)
+  pub same : (n : ℕ) → (reads n n ≡ n) × (writes n n ≡ n)
+  pub below : (i j m n : ℕ) → i < m → j < n → (reads i j < reads m n) × (writes i j < writes m n)
+  pub goes : (z : A) (from to : List A) (k place : ℕ) → (let K = reads (length from) (length to) in k < K →
+      made (set to (writes (comes_from K k) place) (get_or from (reads (comes_from K k) place) z))
+      ≡ set (made to) (writes k place) (get_or (seen from) (reads k place) z))
+
+ahead : {A : Type 0} → DirectionLaws {A = A} second_interleaved (λ xs. xs) (λ i j. i) (λ i j. j)
+ahead = record {
+  seen_long = second-length;
+  made_long = λ xs. refl;
+  either = λ i j. (refl, refl);
+  same = λ n. (refl, refl);
+  below = λ i j m n h l. (h, l);
+  goes = λ z from to k place h. ap (set to place) (sym (second_at from k z h));
+}
+
+undoing : {A : Type 0} → DirectionLaws {A = A} (λ xs. xs) second_interleaved (λ i j. j) (λ i j. i)
+undoing = record {
+  seen_long = λ xs. refl;
+  made_long = second-length;
+  either = λ i j. (refl, refl);
+  same = λ n. (refl, refl);
+  below = λ i j m n h l. (l, h);
+  goes = λ z from to k place h. second-set to k (get_or from place z) h;
+}
+
+pub direction_laws : {A : Type 0} {seen made : List A → List A} {reads writes : ℕ → ℕ → ℕ} → Directed seen made reads writes
+    → DirectionLaws seen made reads writes
+direction_laws {A} d =
+    ⊎_elim (λ w. rw (w.source, w.target, w.read, w.write) (ahead {A = A})) (λ w. rw (w.source, w.target, w.read, w.write) (undoing {A = A})) d
