@@ -1,14 +1,32 @@
 -- What asking for a sheet's sizes and for one channel's numbers answers.
-use Rattle.std.specs.Prelude.{List, [], ◌∷◌, ◌++◌, ℕ, ◌-◌}
+use Rattle.std.specs.Prelude.{List, [], ◌∷◌, ◌++◌, ℕ, ◌-◌, Result, Ok, Err}
 use Rattle.counters.specs.Lines.{Line, line, first_of, given}
+use Rattle.counters.specs.Refusals.{refusal_number}
+use Rattle.counters.specs.declared.refusal.Refusal.{Refusal}
 use Rattle.sheet.specs.Fields.{sheet_of, encoded_of}
 use Rattle.sheet.specs.Sizes.{frames_of, size_of, encoded_all, equalised_all, capacity_all}
 use Rattle.sheet.specs.Numbers.{read_lines, read_number}
 use Rattle.sheet.specs.declared.Sheet.{Sheet}
 use Rattle.matching.specs.Shares.{share_of}
 use Rattle.looking.specs.Looking.{no_trch}
-use Rattle.asking.specs.declared.SizesAnswer.{SizesAnswer}
-use Rattle.asking.specs.declared.ChannelAnswer.{ChannelAnswer}
+use Rattle.asking.specs.declared.Sizes.{Sizes}
+use Rattle.asking.specs.declared.Channel.{Channel}
+
+-- what C is told
+pub record SizesAnswer : Type 0 where
+  pub number : ℕ
+  pub channels : ℕ
+  pub slots : ℕ
+  pub contents : ℕ
+  pub capacity : ℕ
+  pub joined : ℕ
+
+pub record ChannelAnswer : Type 0 where
+  pub number : ℕ
+  pub f : ℕ
+  pub e : ℕ
+  pub n : ℕ
+  pub v : ℕ
 
 -- sizes: I, T, the sum of E, D, the sum of T_i; zeros where refused
 abbrev pub sizes_made : ℕ → ℕ → ℕ → ℕ → ℕ → ℕ → SizesAnswer
@@ -42,3 +60,18 @@ no_channel number = channel_made number 0 0 0 0
 
 abbrev pub channel_answer : List ℕ → ℕ → ChannelAnswer
 channel_answer s k = given (channel_number s k) (channel_in (sheet_of s) (k - 1)) (no_channel (channel_number s k))
+
+-- what the calls answer, in these terms
+abbrev pub sizes_given : Sizes → SizesAnswer
+sizes_given s = sizes_made 0 s.channels s.slots s.contents s.capacity s.joined
+
+abbrev pub sizes_left : Result Sizes Refusal → SizesAnswer
+sizes_left (Ok s) = sizes_given s
+sizes_left (Err r) = no_sizes (refusal_number r)
+
+abbrev pub channel_given : Channel → ChannelAnswer
+channel_given c = channel_made 0 c.f c.e c.n c.v
+
+abbrev pub channel_left : Result Channel Refusal → ChannelAnswer
+channel_left (Ok c) = channel_given c
+channel_left (Err r) = no_channel (refusal_number r)

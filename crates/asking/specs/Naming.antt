@@ -1,8 +1,11 @@
 -- What asking for the name of a place answers.
-use Rattle.std.specs.Prelude.{not, List, [], ◌∷◌, ◌++◌, ℕ}
+use Rattle.std.specs.Prelude.{not, List, [], ◌∷◌, ◌++◌, ℕ, Result, Ok, Err}
 use Rattle.counters.specs.Lines.{Line, line, first_of, given}
+use Rattle.counters.specs.Refusals.{refusal_number}
+use Rattle.counters.specs.declared.refusal.Refusal.{Refusal}
 use Rattle.sheet.specs.Fields.{sheet_of}
-use Rattle.naming.specs.Name.{Name, name_of, has_place}
+use Rattle.naming.specs.Name.{Name, name_of, name_in, has_place}
+use Rattle.naming.specs.declared.PlaceName.{PlaceName}
 use Rattle.looking.specs.Looking.{frame_lines}
 
 pub record Naming : Type 0 where
@@ -31,3 +34,8 @@ abbrev pub name_answer : List ℕ → ℕ → ℕ → ℕ → ℕ → ℕ → Na
 name_answer s frame subframe slot phch place =
     naming (name_number s frame subframe slot phch place)
     (given (name_number s frame subframe slot phch place) (name_of (sheet_of s) frame subframe slot phch place) no_name)
+
+-- what the call answers, in these terms
+abbrev pub naming_left : Result PlaceName Refusal → Naming
+naming_left (Ok n) = naming 0 (name_in n)
+naming_left (Err r) = naming (refusal_number r) no_name

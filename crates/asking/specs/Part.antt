@@ -1,13 +1,21 @@
 -- What asking for a channel's part of a multiplexed frame answers, and the part.
-use Rattle.std.specs.Prelude.{List, [], ◌∷◌, ◌++◌, ℕ, ◌+◌, ◌-◌, ◌*◌, length}
+use Rattle.std.specs.Prelude.{List, [], ◌∷◌, ◌++◌, ℕ, ◌+◌, ◌-◌, ◌*◌, Result, Ok, Err, length}
 use Rattle.counters.specs.Lines.{Line, line, first_of, given}
+use Rattle.counters.specs.Refusals.{refusal_number}
+use Rattle.counters.specs.declared.refusal.Refusal.{Refusal}
 use Rattle.sheet.specs.Fields.{sheet_of}
 use Rattle.sheet.specs.Sizes.{capacity_all}
 use Rattle.sheet.specs.Numbers.{read_lines}
 use Rattle.sheet.specs.declared.Sheet.{Sheet}
 use Rattle.matching.specs.Shares.{cut_of, share_of, channel_part}
 use Rattle.looking.specs.Looking.{no_trch, not_long}
-use Rattle.asking.specs.declared.part.PartAnswer.{PartAnswer}
+use Rattle.asking.specs.declared.part.Part.{Part}
+
+-- what C is told
+pub record PartAnswer : Type 0 where
+  pub number : ℕ
+  pub start : ℕ
+  pub length : ℕ
 
 -- the sheet's own numbers, then 10 where TrCH k does not exist, then 11 where the frame has not D values
 abbrev pub part_lines : List ℕ → ℕ → ℕ → List Line
@@ -28,6 +36,14 @@ no_part number = part_made number 0 0
 
 abbrev pub part_answer : List ℕ → ℕ → ℕ → PartAnswer
 part_answer s k n = given (part_number s k n) (part_in (sheet_of s) (k - 1)) (no_part (part_number s k n))
+
+-- what the call answers, in these terms
+abbrev pub part_given : Part → PartAnswer
+part_given p = part_made 0 p.start p.length
+
+abbrev pub part_left : Result Part Refusal → PartAnswer
+part_left (Ok p) = part_given p
+part_left (Err r) = no_part (refusal_number r)
 
 -- the part of a multiplexed frame of anything: empty where refused
 abbrev pub part_of : {A : Type 0} → List ℕ → ℕ → List A → List A

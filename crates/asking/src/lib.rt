@@ -2,22 +2,22 @@
 #![tactic(auto)]
 
 ghost use Rattle.std.specs.Prelude.{◌≡◌, ◌<◌};
+ghost use Rattle.counters.specs.Refusals.{index_of};
 ghost use Rattle.opening.specs.Opened.{Opens};
-ghost use Rattle.asking.specs.Asking.{sizes_in, sizes_answer, channel_in, no_channel, channel_answer};
+ghost use Rattle.asking.specs.Asking.{sizes_given, sizes_in, no_sizes, sizes_left, sizes_answer, channel_given, channel_in, channel_left, channel_answer};
 
 pub mod name;
 pub mod part;
 
 use counters::TrchNumber;
-use looking::absent;
-use opening::{Opened, capacity, open_sheet, share};
-use sheet::sizes::{all_encoded, all_equalised, frames};
-use sheet::wide;
+use counters::refusal::Refusal;
+use looking::find_trch;
+use opening::{Opened, open_sheet};
+use sheet::sizes::frames;
 
-// The sizes that a caller lends buffers by, zeros where the number is not 0.
+// The sizes that a caller lends buffers by.
 #[derive(Clone, Copy)]
-pub struct SizesAnswer {
-    pub number: u32,
+pub struct Sizes {
     // I and T.
     pub channels: u64,
     pub slots: u64,
@@ -27,97 +27,70 @@ pub struct SizesAnswer {
     pub joined: u64,
 }
 
-// F, E, N and V of a channel, zeros where the number is not 0.
+impl Sizes {
+    // What C is told where the number is not 0.
+    pub fn none() -> Sizes
+        ensures { sizes_given result ≡ no_sizes 0 }
+    {
+        Sizes {
+            channels: 0,
+            slots: 0,
+            contents: 0,
+            capacity: 0,
+            joined: 0,
+        }
+    }
+}
+
+// F, E, N and V of a channel.
 #[derive(Clone, Copy)]
-pub struct ChannelAnswer {
-    pub number: u32,
+pub struct Channel {
     pub f: u64,
     pub e: u64,
     pub n: u64,
     pub v: u64,
 }
 
-fn sizes_of(opened: Opened) -> SizesAnswer
-    requires { Opens opened }
-    ensures { result ≡ sizes_in opened.fields }
+fn sizes_of(opened: &Opened) -> Sizes
+    requires { Opens opened.now }
+    ensures { sizes_given result ≡ sizes_in opened.now.fields }
 {
-    let fields = opened.fields;
-    let contents = all_encoded(fields);
-    let capacity = capacity(opened);
-    let joined = all_equalised(fields);
-    SizesAnswer {
-        number: 0,
-        channels: wide(fields.channels),
-        slots: wide(fields.slots),
-        contents,
-        capacity,
-        joined,
+    let fields = &opened.fields;
+    Sizes {
+        channels: u64::from(fields.channels),
+        slots: u64::from(fields.slots),
+        contents: fields.all_encoded(),
+        capacity: opened.capacity(),
+        joined: fields.all_equalised(),
     }
 }
 
 // The sizes of a sheet.
-pub fn sizes(bytes: &[u8]) -> SizesAnswer
-    ensures { result ≡ sizes_answer bytes.now }
+pub fn sizes(bytes: &[u8]) -> Result<Sizes, Refusal>
+    ensures { (sizes_left result ≡ sizes_answer bytes.now) × (index_of result ≡ 0) }
 {
-    let answer = open_sheet(bytes);
-    let number = answer.number;
-    if number == 0 {
-        let opened = answer.opened;
-        return sizes_of(opened);
-    }
-    SizesAnswer {
-        number,
-        channels: 0,
-        slots: 0,
-        contents: 0,
-        capacity: 0,
-        joined: 0,
-    }
+    let opened = open_sheet(bytes)?;
+    Ok(sizes_of(&opened))
 }
 
-fn channel_of(opened: Opened, i: usize) -> ChannelAnswer
-    requires { Opens opened × (i < opened.fields.channels) }
-    ensures { result ≡ channel_in opened.fields i }
+fn channel_of(opened: &Opened, i: usize) -> Channel
+    requires { Opens opened.now × (i < opened.now.fields.channels) }
+    ensures { channel_given result ≡ channel_in opened.now.fields i }
 {
-    let fields = opened.fields;
-    let tti = fields.tti;
-    let e = fields.e;
-    let sizes = opened.sizes;
-    let v = share(opened, i);
-    ChannelAnswer {
-        number: 0,
-        f: frames(tti[i]),
-        e: wide(e[i]),
-        n: sizes[i] as u64,
-        v,
-    }
-}
-
-fn no_channel(number: u32) -> ChannelAnswer
-    ensures { result ≡ no_channel number }
-{
-    ChannelAnswer {
-        number,
-        f: 0,
-        e: 0,
-        n: 0,
-        v: 0,
+    let fields = &opened.fields;
+    Channel {
+        f: frames(fields.tti[i]),
+        e: u64::from(fields.e[i]),
+        n: u64::from(opened.sizes[i]),
+        v: opened.share(i),
     }
 }
 
 // F, E, N and V of a channel.
-pub fn channel(bytes: &[u8], trch: TrchNumber) -> ChannelAnswer
-    ensures { result ≡ channel_answer bytes.now trch.0 }
+pub fn channel(bytes: &[u8], trch: TrchNumber) -> Result<Channel, Refusal>
+    ensures { (channel_left result ≡ channel_answer bytes.now trch.0) × (index_of result ≡ 0) }
 {
-    let answer = open_sheet(bytes);
-    let number = answer.number;
-    if number != 0 {
-        return no_channel(number);
-    }
-    let opened = answer.opened;
-    let fields = opened.fields;
-    if absent(fields, trch) {
-        return no_channel(10);
-    }
-    channel_of(opened, trch.index())
+    let opened = open_sheet(bytes)?;
+    let i = find_trch(&opened.fields, trch)?;
+    Ok(channel_of(&opened, i))
 }

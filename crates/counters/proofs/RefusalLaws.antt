@@ -5,7 +5,7 @@ use Prim.Native.Nat.{ℕ, ◌<◌}
 use native.Mathlib.Omega.{arith}
 use lib.Dec.{eqb}
 use Rattle.std.specs.Prelude.{Result, Ok, Err}
-use Rattle.counters.specs.Refusals.{refusal_number, refusal_at, number_of, index_of, at_of, value_of}
+use Rattle.counters.specs.Refusals.{refusal_number, refusal_at, number_of, index_of, at_of, value_or}
 use Rattle.counters.specs.declared.refusal.Refusal.{Refusal}
 use Rattle.counters.specs.declared.refusal.Refusal.TheVariants.{ShortSheet, OtherVersion, NoSlots, Malformed, NoCapacity, ManyBits, ManyPlaces, NoBits, LateFrame, Missing, WrongLength, BadValue, BadUplink, BadSubframe}
 
@@ -60,7 +60,7 @@ refusal_positive BadSubframe = omega arith
 pub refusal_same : (a b : Refusal) → refusal_number a ≡ refusal_number b → refusal_at a ≡ refusal_at b → a ≡ b
 refusal_same a b n i = sym (refusal_back a) ∙ ap₂ refusal_of n i ∙ refusal_back b
 
-pub result_same : {A : Type 0} (d : A) (x y : Result A Refusal) → number_of x ≡ number_of y → index_of x ≡ index_of y → value_of d x ≡ value_of d y → x ≡ y
+pub result_same : {A : Type 0} (d : A) (x y : Result A Refusal) → number_of x ≡ number_of y → index_of x ≡ index_of y → value_or d x ≡ value_or d y → x ≡ y
 result_same d (Ok x) (Ok y) n i v = ap Ok v
 result_same d (Ok x) (Err b) n i v = absurd (omega (arith, refusal_positive b))
 result_same d (Err a) (Ok y) n i v = absurd (omega (arith, refusal_positive a))

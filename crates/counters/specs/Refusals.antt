@@ -42,9 +42,9 @@ at_of (Ok n) = n
 at_of (Err r) = refusal_at r
 
 -- what was asked for, and d where the call refuses
-abbrev pub value_of : {A : Type 0} → A → Result A Refusal → A
-value_of d (Ok x) = x
-value_of d (Err r) = d
+abbrev pub value_or : {A : Type 0} → A → Result A Refusal → A
+value_or d (Ok x) = x
+value_or d (Err r) = d
 
 -- of a call whose answer is a count
 abbrev pub answer_in : Result ℕ Refusal → Answer

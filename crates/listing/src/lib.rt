@@ -5,7 +5,7 @@ ghost use Rattle.std.specs.Prelude.{◌≡◌, List, [], ◌++◌, ℕ, ◌+◌,
 ghost use Rattle.opening.specs.Opened.{Opens};
 ghost use Rattle.listing.specs.Listing.{room, decimal_of, head_line, with_line, lines_to, refusal, listing_of, text_of, Pushed};
 
-use opening::{Opened, capacity, open_sheet, share};
+use opening::{Opened, open_sheet};
 use sheet::counts::CHANNELS;
 use sheet::sizes::frames;
 
@@ -66,7 +66,7 @@ fn head_line(opened: &Opened) -> Text
     let mut text = Text::new();
     text.push_pair(b"channels ", u64::from(fields.channels));
     text.push_pair(b" slots ", u64::from(fields.slots));
-    text.push_pair(b" capacity ", capacity(*opened));
+    text.push_pair(b" capacity ", opened.capacity());
     text.push(b"\n");
     text
 }
@@ -80,7 +80,7 @@ fn channel_line(text: &mut Text, opened: &Opened, i: usize)
     text.push_pair(b" F ", frames(fields.tti[i]));
     text.push_pair(b" E ", u64::from(fields.e[i]));
     text.push_pair(b" N ", u64::from(opened.sizes[i]));
-    text.push_pair(b" V ", share(*opened, i));
+    text.push_pair(b" V ", opened.share(i));
     text.push(b"\n");
 }
 
@@ -108,10 +108,8 @@ fn refuse(number: u32) -> Text
 pub fn list_sheet(bytes: &[u8]) -> Text
     ensures { (result ≡ text_of (listing_of bytes.now)) × (result.len ≤ room) }
 {
-    let answer = open_sheet(bytes);
-    let number = answer.number;
-    if number == 0 {
-        return list(&answer.opened);
+    match open_sheet(bytes) {
+        Ok(opened) => list(&opened),
+        Err(refusal) => refuse(refusal.number()),
     }
-    refuse(number)
 }

@@ -1,7 +1,7 @@
 -- The lines 9 to 12 of the table of numbers, and what a call leaves that looks at lent values before it writes others.
 use Rattle.std.specs.Prelude.{◌≡◌, Bool, not, ◌||◌, cond, List, [], ◌∷◌, ◌++◌, ℕ, Option, Some, None, Result, Ok, Err, eqb, ltb, length}
 use Rattle.laws.specs.FirstFail.{first_fail}
-use Rattle.counters.specs.Lines.{Line, line, first_of, given, Answer}
+use Rattle.counters.specs.Lines.{Line, line, first_of, given}
 use Rattle.counters.specs.Refusals.{number_of, index_of}
 use Rattle.counters.specs.declared.refusal.Refusal.{Refusal}
 use Rattle.sheet.specs.Numbers.{read_lines}
@@ -34,18 +34,11 @@ look_lines test vs needed n room =
 abbrev pub indexed : ℕ → ℕ → ℕ
 indexed n bad = cond (eqb n 12) bad 0
 
--- of the line of 12 alone, `bad` being the index of the first bad value of n
-abbrev pub pointed_at : ℕ → ℕ → Answer
-pointed_at bad n = let k : ℕ = cond (ltb bad n) 12 0 in record { number = k; at = indexed k bad }
-
-abbrev pub look_answer : {A : Type 0} → (A → Bool) → List A → ℕ → ℕ → ℕ → Answer
-look_answer test vs needed n room =
-    let k = first_of (look_lines test vs needed n room) in
-    record { number = k; at = indexed k (first_fail test vs) }
-
--- what a call that looks at them answers, in these terms
-abbrev pub look_left : {A : Type 0} → Result A Refusal → Answer
-look_left r = record { number = number_of r; at = index_of r }
+-- what a call answers that asks other lines, and then looks at them
+abbrev pub Looks : {A B : Type 0} → (A → Bool) → List Line → List A → ℕ → ℕ → ℕ → Result B Refusal → Type 0
+Looks test head vs needed n room r =
+    let k = first_of (head ++ look_lines test vs needed n room) in
+    (number_of r ≡ k) × (index_of r ≡ indexed k (first_fail test vs))
 
 -- 12 at the index of a bad value, where there is one
 abbrev pub Pointed : {A : Type 0} → Option ℕ → Result A Refusal → Type 0

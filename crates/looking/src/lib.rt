@@ -1,14 +1,14 @@
 // What several calls ask first: the sheet, the frame number, the channel, the lengths, and that the values lent are bits or in range.
 #![tactic(auto)]
 
-ghost use Rattle.std.specs.Prelude.{◌≡◌, ◌-◌, ◌<◌, [], ◌∷◌, IfOk};
+ghost use Rattle.std.specs.Prelude.{◌≡◌, ◌-◌, ◌<◌, [], ◌∷◌, IfOk, length};
 ghost use Rattle.counters.specs.Lines.{line};
 ghost use Rattle.counters.specs.Refusals.{Refuses};
 ghost use Rattle.sheet.specs.Fields.{sheet_of};
 ghost use Rattle.joining.specs.Range.{in_range};
 ghost use Rattle.frame.specs.Bit.{is_bit};
 ghost use Rattle.opening.specs.Opened.{opened_of, Opens};
-ghost use Rattle.looking.specs.Looking.{frame_lines, no_trch, not_long, look_left, look_answer, pointed_at, Pointed};
+ghost use Rattle.looking.specs.Looking.{frame_lines, no_trch, not_long, Looks, Pointed};
 
 use counters::refusal::Refusal;
 use counters::{FrameNumber, TrchNumber};
@@ -46,7 +46,8 @@ pub fn find_trch(fields: &Sheet, trch: TrchNumber) -> Result<usize, Refusal>
 
 // Number 11: whether `have` values are lent where `needed` are.
 pub fn check_length(have: usize, needed: u64) -> Result<(), Refusal>
-    ensures { Refuses (line (not_long have needed) 11 ∷ []) result }
+    ensures number { Refuses (line (not_long have needed) 11 ∷ []) result }
+    ensures long { IfOk result (λ _. have ≡ needed) }
 {
     if have as u64 == needed {
         Ok(())
@@ -67,7 +68,8 @@ fn check_values(bad: Option<usize>) -> Result<(), Refusal>
 
 // Numbers 11 and 12: `needed` bits are lent, `room` places in a buffer of n.
 pub fn look(bits: &[u8], needed: u64, n: usize, room: u64) -> Result<(), Refusal>
-    ensures { look_left result ≡ look_answer is_bit bits.now needed n room }
+    ensures number { Looks is_bit [] bits.now needed n room result }
+    ensures long { IfOk result (λ _. (length bits.now ≡ needed) × (n ≡ room)) }
 {
     check_length(bits.len(), needed)?;
     check_length(n, room)?;
@@ -76,7 +78,8 @@ pub fn look(bits: &[u8], needed: u64, n: usize, room: u64) -> Result<(), Refusal
 
 // The same of soft values. With a parameter for the test both would be as long as they are.
 pub fn look_soft(values: &[f32], needed: u64, n: usize, room: u64) -> Result<(), Refusal>
-    ensures { look_left result ≡ look_answer in_range values.now needed n room }
+    ensures number { Looks in_range [] values.now needed n room result }
+    ensures long { IfOk result (λ _. (length values.now ≡ needed) × (n ≡ room)) }
 {
     check_length(values.len(), needed)?;
     check_length(n, room)?;

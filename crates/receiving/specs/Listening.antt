@@ -1,21 +1,38 @@
 -- What asking for one bit and for a channel's link record answers.
-use Rattle.std.specs.Prelude.{Bool, ◌||◌, List, [], ◌∷◌, ◌++◌, ℕ, ◌-◌, eqb, ltb, Float}
+use Rattle.std.specs.Prelude.{Bool, ◌||◌, List, [], ◌∷◌, ◌++◌, ℕ, ◌-◌, eqb, ltb, Float, Result, Ok, Err}
 use Rattle.counters.specs.Lines.{Line, line, first_of, given}
+use Rattle.counters.specs.Refusals.{number_of, index_of, value_or}
+use Rattle.counters.specs.declared.refusal.Refusal.{Refusal}
 use Rattle.sheet.specs.Fields.{sheet_of}
 use Rattle.sheet.specs.Sizes.{size_of, capacity_all}
 use Rattle.sheet.specs.declared.Sheet.{Sheet}
 use Rattle.joining.specs.Joining.{value_of, count_of}
 use Rattle.joining.specs.Range.{in_range, first_out}
+use Rattle.joining.specs.declared.Heard.{Heard}
 use Rattle.joining.specs.declared.Heard.TheVariants.{Nothing}
+use Rattle.joining.specs.declared.linking.Link.{Link}
 use Rattle.homing.specs.Home.{heard_at, link_in}
 use Rattle.homing.specs.Receiving.{no_link}
 use Rattle.looking.specs.Looking.{frame_lines, no_trch, look_lines, indexed}
-use Rattle.receiving.specs.declared.listening.HeardAnswer.{HeardAnswer}
-use Rattle.receiving.specs.declared.listening.LinkAnswer.{LinkAnswer}
+
+-- what a caller is told
+pub record HeardAnswer : Type 0 where
+  pub number : ℕ
+  pub at : ℕ
+  pub heard : Heard
+
+pub record LinkAnswer : Type 0 where
+  pub number : ℕ
+  pub at : ℕ
+  pub link : Link
+
+-- 10: bit b, counted from 1, of the segment of channel i does not exist
+abbrev pub not_sent : Sheet → ℕ → ℕ → Bool
+not_sent sh i b = eqb b 0 || ltb (size_of sh i) b
 
 -- 10: TrCH k, or bit b of its segment, both counted from 1, does not exist
 abbrev pub no_bit : Sheet → ℕ → ℕ → Bool
-no_bit sh k b = no_trch sh k || (eqb b 0 || ltb (size_of sh (k - 1)) b)
+no_bit sh k b = no_trch sh k || not_sent sh (k - 1) b
 
 -- the sheet's own numbers and 9, then 10, then the frame's values, of which D are needed; nothing is written, so that no room is needed
 abbrev pub heard_lines : List ℕ → ℕ → List Float → ℕ → ℕ → List Line
@@ -54,3 +71,10 @@ heard_numbers r = numbers r.number r.at (value_of r.heard) (count_of r.heard)
 abbrev pub link_made : ℕ → ℕ → Float → Float → ℕ → LinkAnswer
 link_made n at least greatest punctured =
     record { number = n; at = at; link = record { least = least; greatest = greatest; punctured = punctured } }
+
+-- what the calls answer, in these terms
+abbrev pub heard_left : Result Heard Refusal → HeardAnswer
+heard_left r = record { number = number_of r; at = index_of r; heard = value_or Nothing r }
+
+abbrev pub link_left : Result Link Refusal → LinkAnswer
+link_left r = record { number = number_of r; at = index_of r; link = value_or no_link r }

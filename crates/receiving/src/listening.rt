@@ -1,97 +1,29 @@
 // Listening to one channel of a received frame: what was heard of one bit, and the link record.
-ghost use Rattle.std.specs.Prelude.{◌≡◌};
+ghost use Rattle.std.specs.Prelude.{◌≡◌, ◌-◌, ◌<◌, [], ◌∷◌, IfOk};
+ghost use Rattle.counters.specs.Lines.{line};
+ghost use Rattle.counters.specs.Refusals.{Refuses};
+ghost use Rattle.sheet.specs.Sizes.{size_of};
 ghost use Rattle.opening.specs.Opened.{Opens};
-ghost use Rattle.receiving.specs.Listened.{missing, unheard, listened_made, listened_of};
-ghost use Rattle.receiving.specs.Listening.{heard_answer, link_answer};
+ghost use Rattle.receiving.specs.Listening.{not_sent, heard_left, heard_answer, link_left, link_answer};
 
+use counters::refusal::Refusal;
 use counters::{BitNumber, FrameNumber, TrchNumber};
-use homing::receiving::{Asked, Reception, Wanted, receive};
+use homing::receiving::{receive_bit, receive_link};
 use joining::Heard;
 use joining::linking::Link;
-use looking::{absent, look_soft, open_frame};
-use opening::{Opened, capacity};
+use looking::{find_trch, look_soft, open_frame};
+use opening::Opened;
 
-// What was heard of a bit, nothing where the number is not 0; with number 12 `at` is the index of the first bad value.
-#[derive(Clone, Copy)]
-pub struct HeardAnswer {
-    pub number: u32,
-    pub at: u64,
-    pub heard: Heard,
-}
-
-// A channel's link record, zeros where the number is not 0; `at` as above.
-#[derive(Clone, Copy)]
-pub struct LinkAnswer {
-    pub number: u32,
-    pub at: u64,
-    pub link: Link,
-}
-
-// What both calls answer; nothing heard and zeros where the number is not 0, or where it was not asked for.
-#[derive(Clone, Copy)]
-pub struct Listened {
-    pub number: u32,
-    pub at: u64,
-    pub reception: Reception,
-}
-
-fn refused(number: u32, at: u64) -> Listened
-    ensures { result ≡ listened_made number at unheard }
+// Number 10: where a bit, counted from 1, stands in the segment of channel i.
+fn find_bit(opened: &Opened, i: usize, bit: BitNumber) -> Result<usize, Refusal>
+    requires { Opens opened.now × (i < opened.now.fields.channels) }
+    ensures number { Refuses (line (not_sent opened.now.fields i bit.0) 10 ∷ []) result }
+    ensures index { IfOk result (λ m. (m ≡ bit.0 - 1) × (m < size_of opened.now.fields i)) }
 {
-    let link = Link::new();
-    let reception = Reception {
-        heard: Heard::Nothing,
-        link,
-    };
-    Listened {
-        number,
-        at,
-        reception,
-    }
-}
-
-// Whether there is no such channel, or no such bit in its segment.
-fn is_missing(opened: Opened, wanted: Wanted) -> bool
-    requires { Opens opened }
-    ensures { result ≡ missing opened.fields wanted }
-{
-    let fields = opened.fields;
-    match wanted {
-        Wanted::Bit(trch, bit) => {
-            if absent(fields, trch) {
-                return true;
-            }
-            let sizes = opened.sizes;
-            let i = trch.index();
-            !bit.is_among(sizes[i] as u64)
-        }
-        Wanted::Channel(trch) => absent(fields, trch),
-    }
-}
-
-// One bit, or the link record.
-fn listen(bytes: &[u8], number: FrameNumber, frame: &[f32], wanted: Wanted) -> Listened
-    ensures { result ≡ listened_of bytes.now number.0 frame.now wanted }
-{
-    let answer = open_frame(bytes, number);
-    if answer.number != 0 {
-        return refused(answer.number, 0);
-    }
-    let opened = answer.opened;
-    if is_missing(opened, wanted) {
-        return refused(10, 0);
-    }
-    let looked = look_soft(frame, capacity(opened), 0, 0);
-    if looked.number != 0 {
-        return refused(looked.number, looked.at);
-    }
-    let asked = Asked::One(wanted);
-    let mut unused = [0.0f32; 1];
-    let reception = receive(frame, opened, number, asked, &mut unused);
-    Listened {
-        number: 0,
-        at: 0,
-        reception,
+    if bit.is_among(u64::from(opened.sizes[i])) {
+        Ok(bit.index())
+    } else {
+        Err(Refusal::Missing)
     }
 }
 
@@ -102,29 +34,22 @@ pub fn heard(
     frame: &[f32],
     trch: TrchNumber,
     bit: BitNumber,
-) -> HeardAnswer
-    ensures { result ≡ heard_answer bytes.now number.0 frame.now trch.0 bit.0 }
+) -> Result<Heard, Refusal>
+    ensures { heard_left result ≡ heard_answer bytes.now number.0 frame.now trch.0 bit.0 }
 {
-    let found = listen(bytes, number, frame, Wanted::Bit(trch, bit));
-    let reception = found.reception;
-    let heard = reception.heard;
-    HeardAnswer {
-        number: found.number,
-        at: found.at,
-        heard,
-    }
+    let opened = open_frame(bytes, number)?;
+    let i = find_trch(&opened.fields, trch)?;
+    let m = find_bit(&opened, i, bit)?;
+    look_soft(frame, opened.capacity(), 0, 0)?;
+    Ok(receive_bit(frame, &opened, number, i, m))
 }
 
 // The channel's link record.
-pub fn link(bytes: &[u8], number: FrameNumber, frame: &[f32], trch: TrchNumber) -> LinkAnswer
-    ensures { result ≡ link_answer bytes.now number.0 frame.now trch.0 }
+pub fn link(bytes: &[u8], number: FrameNumber, frame: &[f32], trch: TrchNumber) -> Result<Link, Refusal>
+    ensures { link_left result ≡ link_answer bytes.now number.0 frame.now trch.0 }
 {
-    let found = listen(bytes, number, frame, Wanted::Channel(trch));
-    let reception = found.reception;
-    let link = reception.link;
-    LinkAnswer {
-        number: found.number,
-        at: found.at,
-        link,
-    }
+    let opened = open_frame(bytes, number)?;
+    let i = find_trch(&opened.fields, trch)?;
+    look_soft(frame, opened.capacity(), 0, 0)?;
+    Ok(receive_link(frame, &opened, number, i))
 }

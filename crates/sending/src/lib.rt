@@ -1,81 +1,61 @@
 // A frame is built: steps 1 to 9, or 1 to 7, or 8 and 9.
 #![tactic(auto)]
 
-ghost use Rattle.std.specs.Prelude.{◌≡◌};
+ghost use Rattle.std.specs.Prelude.{◌≡◌, IfOk, length};
+ghost use Rattle.counters.specs.Refusals.{number_of, at_of};
+ghost use Rattle.sheet.specs.Fields.{sheet_of};
+ghost use Rattle.sheet.specs.Sizes.{encoded_all, capacity_all};
+ghost use Rattle.frame.specs.Bit.{is_bit};
+ghost use Rattle.opening.specs.Opened.{opened_of, Opens};
 ghost use Rattle.looking.specs.Outcome.{outcome};
-ghost use Rattle.sending.specs.Building.{build_into, multiplex_into, send_into, spread_into};
+ghost use Rattle.looking.specs.Looking.{frame_lines, Looks};
+ghost use Rattle.sending.specs.Building.{build_into, multiplex_into, spread_into};
 
-use counters::{Answer, FrameNumber};
+use counters::FrameNumber;
+use counters::refusal::Refusal;
 use frame::building::build_bits;
 use frame::multiplexing::multiplex_bits;
 use frame::spreading::spread_bits;
 use looking::{look, open_frame};
-use opening::{capacity, open_sheet};
-use sheet::sizes::all_encoded;
+use opening::{Opened, open_sheet};
 
-// The contents are asked and sent: to the whole frame, or multiplexed.
-fn send(bytes: &[u8], frame: FrameNumber, contents: &[u8], out: &mut [u8], whole: bool) -> Answer
-    ensures { outcome result.number result.at out.new ≡ send_into whole bytes.now frame.0 contents.now out.old }
+// The contents are asked, of which a buffer of n places is to take the frame.
+fn open_contents(bytes: &[u8], frame: FrameNumber, contents: &[u8], n: usize) -> Result<Opened, Refusal>
+    ensures number { Looks is_bit (frame_lines bytes.now frame.0) contents.now (encoded_all (sheet_of bytes.now)) n (capacity_all (sheet_of bytes.now)) result }
+    ensures opened { IfOk result (λ o. o ≡ opened_of (sheet_of bytes.now)) }
+    ensures opens { IfOk result (λ o. Opens o) }
+    ensures long { IfOk result (λ o. (length contents.now ≡ encoded_all o.fields) × (n ≡ capacity_all o.fields)) }
 {
-    let answer = open_frame(bytes, frame);
-    let number = answer.number;
-    if number != 0 {
-        return Answer { number, at: 0 };
-    }
-    let opened = answer.opened;
-    let fields = opened.fields;
-    let places = capacity(opened);
-    let asked = look(contents, all_encoded(fields), out.len(), places);
-    if asked.number != 0 {
-        return asked;
-    }
-    if whole {
-        build_bits(contents, opened, frame, out);
-        return Answer {
-            number: 0,
-            at: places,
-        };
-    }
-    multiplex_bits(contents, opened, frame, out);
-    Answer {
-        number: 0,
-        at: places,
-    }
+    let opened = open_frame(bytes, frame)?;
+    look(contents, opened.fields.all_encoded(), n, opened.capacity())?;
+    Ok(opened)
 }
 
 // Steps 1 to 9: the frame of the contents.
-pub fn build(bytes: &[u8], frame: FrameNumber, contents: &[u8], out: &mut [u8]) -> Answer
-    ensures { outcome result.number result.at out.new ≡ build_into bytes.now frame.0 contents.now out.old }
+pub fn build(bytes: &[u8], frame: FrameNumber, contents: &[u8], out: &mut [u8]) -> Result<u64, Refusal>
+    ensures { outcome (number_of result) (at_of result) out.new ≡ build_into bytes.now frame.0 contents.now out.old }
 {
-    send(bytes, frame, contents, out, true)
+    let opened = open_contents(bytes, frame, contents, out.len())?;
+    build_bits(contents, &opened, frame, out);
+    Ok(opened.capacity())
 }
 
 // Steps 1 to 7: the multiplexed bits of the contents.
-pub fn multiplex(bytes: &[u8], frame: FrameNumber, contents: &[u8], out: &mut [u8]) -> Answer
-    ensures { outcome result.number result.at out.new ≡ multiplex_into bytes.now frame.0 contents.now out.old }
+pub fn multiplex(bytes: &[u8], frame: FrameNumber, contents: &[u8], out: &mut [u8]) -> Result<u64, Refusal>
+    ensures { outcome (number_of result) (at_of result) out.new ≡ multiplex_into bytes.now frame.0 contents.now out.old }
 {
-    send(bytes, frame, contents, out, false)
+    let opened = open_contents(bytes, frame, contents, out.len())?;
+    multiplex_bits(contents, &opened, frame, out);
+    Ok(opened.capacity())
 }
 
 // Steps 8 and 9: the frame of multiplexed bits.
-pub fn spread(bytes: &[u8], bits: &[u8], out: &mut [u8]) -> Answer
-    ensures { outcome result.number result.at out.new ≡ spread_into bytes.now bits.now out.old }
+pub fn spread(bytes: &[u8], bits: &[u8], out: &mut [u8]) -> Result<u64, Refusal>
+    ensures { outcome (number_of result) (at_of result) out.new ≡ spread_into bytes.now bits.now out.old }
 {
-    let answer = open_sheet(bytes);
-    let number = answer.number;
-    if number != 0 {
-        return Answer { number, at: 0 };
-    }
-    let opened = answer.opened;
-    let fields = opened.fields;
-    let places = capacity(opened);
-    let looked = look(bits, places, out.len(), places);
-    if looked.number != 0 {
-        return looked;
-    }
-    spread_bits(bits, fields, out);
-    Answer {
-        number: 0,
-        at: places,
-    }
+    let opened = open_sheet(bytes)?;
+    let places = opened.capacity();
+    look(bits, places, out.len(), places)?;
+    spread_bits(bits, &opened.fields, out);
+    Ok(places)
 }

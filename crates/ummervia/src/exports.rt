@@ -1,5 +1,6 @@
 // The calls in the form in which C has them, which crate ummervia_c exports: further answers are written through references, on a refusal as zeros.
 ghost use Rattle.std.specs.Prelude.{◌≡◌};
+ghost use Rattle.counters.specs.Refusals.{number_of, at_of, answer_in};
 ghost use Rattle.looking.specs.Outcome.{outcome};
 ghost use Rattle.sheets.specs.Sheets.{read_into, answer_made, length_from, write_from};
 ghost use Rattle.asking.specs.Naming.{name_left, name_answer};
@@ -7,54 +8,58 @@ ghost use Rattle.asking.specs.Part.{part_made, part_answer};
 ghost use Rattle.asking.specs.Asking.{sizes_made, sizes_answer, channel_made, channel_answer};
 ghost use Rattle.sending.specs.Building.{build_into, multiplex_into, spread_into};
 
+use crate::telling::{number, tell};
 use asking::name::name;
-use asking::part::part;
-use asking::{channel, sizes};
-use counters::{FrameNumber, PhchNumber, TrchNumber};
+use asking::part::{Part, part};
+use asking::{Channel, Sizes, channel, sizes};
+use counters::refusal::Refusal;
+use counters::{BitNumber, FrameNumber, PhchNumber, TrchNumber};
+use looking::check_length;
+use naming::PlaceName;
 use sending::{build, multiplex, spread};
 use sheets::flat::{FLAT, lay_sheet, take_sheet};
 use sheets::{sheet_length, sheet_read, sheet_write};
 
+// The three calls whose fields are a row of numbers.
+fn read_row(bytes: &[u8], row: &mut [u16]) -> Result<u64, Refusal>
+    ensures { outcome (number_of result) (at_of result) row.new ≡ read_into bytes.now row.old }
+{
+    let fields = sheet_read(bytes)?;
+    check_length(row.len(), FLAT as u64)?;
+    lay_sheet(&fields, row);
+    Ok(FLAT as u64)
+}
+
+fn length_row(row: &[u16]) -> Result<u64, Refusal>
+    ensures { answer_in result ≡ length_from row.now }
+{
+    check_length(row.len(), FLAT as u64)?;
+    sheet_length(&take_sheet(row))
+}
+
+fn write_row(row: &[u16], bytes: &mut [u8]) -> Result<u64, Refusal>
+    ensures { outcome (number_of result) (at_of result) bytes.new ≡ write_from row.now bytes.old }
+{
+    check_length(row.len(), FLAT as u64)?;
+    sheet_write(&take_sheet(row), bytes)
+}
+
 pub fn umv_sheet_read(bytes: &[u8], fields: &mut [u16], at: &mut u64) -> u32
     ensures { outcome result at.new fields.new ≡ read_into bytes.now fields.old }
 {
-    *at = 0;
-    let answer = sheet_read(bytes);
-    let number = answer.number;
-    if number != 0 {
-        return number;
-    }
-    if fields.len() != FLAT {
-        return 11;
-    }
-    let read = answer.sheet;
-    lay_sheet(read, fields);
-    *at = FLAT as u64;
-    0
+    tell(read_row(bytes, fields), at)
 }
 
 pub fn umv_sheet_length(fields: &[u16], at: &mut u64) -> u32
     ensures { answer_made result at.new ≡ length_from fields.now }
 {
-    *at = 0;
-    if fields.len() != FLAT {
-        return 11;
-    }
-    let answer = sheet_length(take_sheet(fields));
-    *at = answer.at;
-    answer.number
+    tell(length_row(fields), at)
 }
 
 pub fn umv_sheet_write(fields: &[u16], bytes: &mut [u8], at: &mut u64) -> u32
     ensures { outcome result at.new bytes.new ≡ write_from fields.now bytes.old }
 {
-    *at = 0;
-    if fields.len() != FLAT {
-        return 11;
-    }
-    let answer = sheet_write(take_sheet(fields), bytes);
-    *at = answer.at;
-    answer.number
+    tell(write_row(fields, bytes), at)
 }
 
 pub fn umv_sizes(
@@ -68,12 +73,13 @@ pub fn umv_sizes(
     ensures { sizes_made result channels.new slots.new contents.new capacity.new joined.new ≡ sizes_answer bytes.now }
 {
     let answer = sizes(bytes);
-    *channels = answer.channels;
-    *slots = answer.slots;
-    *contents = answer.contents;
-    *capacity = answer.capacity;
-    *joined = answer.joined;
-    answer.number
+    let found = answer.unwrap_or(Sizes::none());
+    *channels = found.channels;
+    *slots = found.slots;
+    *contents = found.contents;
+    *capacity = found.capacity;
+    *joined = found.joined;
+    number(answer)
 }
 
 pub fn umv_channel(
@@ -87,11 +93,17 @@ pub fn umv_channel(
     ensures { channel_made result f.new e.new n.new v.new ≡ channel_answer bytes.now trch }
 {
     let answer = channel(bytes, TrchNumber(trch));
-    *f = answer.f;
-    *e = answer.e;
-    *n = answer.n;
-    *v = answer.v;
-    answer.number
+    let found = answer.unwrap_or(Channel {
+        f: 0,
+        e: 0,
+        n: 0,
+        v: 0,
+    });
+    *f = found.f;
+    *e = found.e;
+    *n = found.n;
+    *v = found.v;
+    number(answer)
 }
 
 pub fn umv_build(
@@ -103,9 +115,7 @@ pub fn umv_build(
 ) -> u32
     ensures { outcome result at.new frame.new ≡ build_into bytes.now frame_number contents.now frame.old }
 {
-    let answer = build(bytes, FrameNumber(frame_number), contents, frame);
-    *at = answer.at;
-    answer.number
+    tell(build(bytes, FrameNumber(frame_number), contents, frame), at)
 }
 
 pub fn umv_multiplex(
@@ -117,17 +127,13 @@ pub fn umv_multiplex(
 ) -> u32
     ensures { outcome result at.new multiplexed.new ≡ multiplex_into bytes.now frame_number contents.now multiplexed.old }
 {
-    let answer = multiplex(bytes, FrameNumber(frame_number), contents, multiplexed);
-    *at = answer.at;
-    answer.number
+    tell(multiplex(bytes, FrameNumber(frame_number), contents, multiplexed), at)
 }
 
 pub fn umv_spread(bytes: &[u8], multiplexed: &[u8], frame: &mut [u8], at: &mut u64) -> u32
     ensures { outcome result at.new frame.new ≡ spread_into bytes.now multiplexed.now frame.old }
 {
-    let answer = spread(bytes, multiplexed, frame);
-    *at = answer.at;
-    answer.number
+    tell(spread(bytes, multiplexed, frame), at)
 }
 
 pub fn umv_part(
@@ -140,9 +146,13 @@ pub fn umv_part(
     ensures { part_made result start.new length.new ≡ part_answer bytes.now trch multiplexed_len }
 {
     let answer = part(bytes, TrchNumber(trch), multiplexed_len);
-    *start = answer.start;
-    *length = answer.length;
-    answer.number
+    let found = answer.unwrap_or(Part {
+        start: 0,
+        length: 0,
+    });
+    *start = found.start;
+    *length = found.length;
+    number(answer)
 }
 
 pub fn umv_name(
@@ -166,9 +176,13 @@ pub fn umv_name(
         PhchNumber(phch),
         place,
     );
-    let found = answer.name;
+    let found = answer.unwrap_or(PlaceName {
+        trch: TrchNumber(0),
+        bit: BitNumber(0),
+        copy: 0,
+    });
     *trch = found.trch.number();
     *bit = found.bit.number();
     *copy = found.copy;
-    answer.number
+    number(answer)
 }

@@ -4,8 +4,10 @@ ghost use Rattle.looking.specs.Outcome.{outcome};
 ghost use Rattle.receiving.specs.Receiving.{gather_into, take_into, finish_into};
 ghost use Rattle.receiving.specs.Listening.{heard_answer, numbers, heard_numbers, link_answer, link_made};
 
+use crate::telling::{index, number, tell};
 use counters::{BitNumber, FrameNumber, TrchNumber};
 use joining::Heard;
+use joining::linking::Link;
 use receiving::finishing::finish;
 use receiving::listening::{heard, link};
 use receiving::{gather, take_back};
@@ -13,9 +15,7 @@ use receiving::{gather, take_back};
 pub fn umv_gather(bytes: &[u8], frame: &[f32], multiplexed: &mut [f32], at: &mut u64) -> u32
     ensures { outcome result at.new multiplexed.new ≡ gather_into bytes.now frame.now multiplexed.old }
 {
-    let answer = gather(bytes, frame, multiplexed);
-    *at = answer.at;
-    answer.number
+    tell(gather(bytes, frame, multiplexed), at)
 }
 
 pub fn umv_take_back(
@@ -27,17 +27,13 @@ pub fn umv_take_back(
 ) -> u32
     ensures { outcome result at.new joined.new ≡ take_into bytes.now frame_number frame.now joined.old }
 {
-    let answer = take_back(bytes, FrameNumber(frame_number), frame, joined);
-    *at = answer.at;
-    answer.number
+    tell(take_back(bytes, FrameNumber(frame_number), frame, joined), at)
 }
 
 pub fn umv_finish(bytes: &[u8], trch: u32, joined: &[f32], coded: &mut [f32], at: &mut u64) -> u32
     ensures { outcome result at.new coded.new ≡ finish_into bytes.now trch joined.now coded.old }
 {
-    let answer = finish(bytes, TrchNumber(trch), joined, coded);
-    *at = answer.at;
-    answer.number
+    tell(finish(bytes, TrchNumber(trch), joined, coded), at)
 }
 
 pub fn umv_heard(
@@ -59,9 +55,8 @@ pub fn umv_heard(
         TrchNumber(trch),
         BitNumber(bit),
     );
-    *at = answer.at;
-    let found = answer.heard;
-    match found {
+    *at = index(answer);
+    match answer.unwrap_or(Heard::Nothing) {
         Heard::Nothing => {
             *value = 0.0;
             *copies = 0;
@@ -75,7 +70,7 @@ pub fn umv_heard(
             *copies = n as u64;
         }
     }
-    answer.number
+    number(answer)
 }
 
 pub fn umv_link(
@@ -91,10 +86,10 @@ pub fn umv_link(
     ensures { link_made result at.new least.new greatest.new punctured.new ≡ link_answer bytes.now frame_number frame.now trch }
 {
     let answer = link(bytes, FrameNumber(frame_number), frame, TrchNumber(trch));
-    let found = answer.link;
-    *at = answer.at;
+    let found = answer.unwrap_or(Link::new());
+    *at = index(answer);
     *least = found.least;
     *greatest = found.greatest;
     *punctured = found.punctured as u64;
-    answer.number
+    number(answer)
 }

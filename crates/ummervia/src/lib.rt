@@ -3,13 +3,14 @@
 
 pub mod exports;
 pub mod exports_home;
+mod telling;
 
 // Each call and its answer, out of the crate that it stands in.
-pub use asking::name::{NameAnswer, name};
-pub use asking::part::{PartAnswer, part, part_bits, part_soft};
-pub use asking::{ChannelAnswer, SizesAnswer, channel, sizes};
+pub use asking::name::name;
+pub use asking::part::{Part, part, part_bits, part_soft};
+pub use asking::{Channel, Sizes, channel, sizes};
 pub use receiving::finishing::finish;
-pub use receiving::listening::{HeardAnswer, LinkAnswer, heard, link};
+pub use receiving::listening::{heard, link};
 pub use receiving::{gather, take_back};
 pub use sending::{build, multiplex, spread};
 pub use sheets::{sheet_length, sheet_read, sheet_write};
