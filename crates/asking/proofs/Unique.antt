@@ -2,8 +2,10 @@
 -- values of all that was lent for writing. A statement names the call alone, so that a contract that leaves a part open is refused here.
 use mathlib.Core.Path.{◌≡◌, refl, sym, ◌∙◌}
 use Rattle.counters.specs.Promised.{Promised, TakesAll, DeterminedAs, seen}
-use Rattle.counters.proofs.PromiseLaws.{alone, with_lasts}
-use Rattle.asking.specs.Naming.{Naming}
+use Rattle.counters.proofs.RefusalLaws.{told_alone}
+use Rattle.asking.specs.Asking.{SizesAnswer, no_sizes_found, sizes_left, ChannelAnswer, no_channel_found, channel_left}
+use Rattle.asking.specs.Naming.{Naming, no_name_found, naming_left}
+use Rattle.asking.specs.Part.{PartAnswer, no_part_found, part_left}
 use Rattle.asking.proofs.sizes as Sizes
 use Rattle.asking.specs.contracts.sizes as SizesContract
 use Rattle.asking.proofs.channel as Channel
@@ -18,20 +20,16 @@ use Rattle.asking.proofs.part.part_soft as PartSoft
 use Rattle.asking.specs.contracts.part.part_soft as PartSoftContract
 
 pub sizes : Promised SizesContract.ended Sizes.Reads.Asked Sizes.Reads.Learnt
-sizes = record { takes_all = λ κs inputs. tt; one_answer = λ κs inputs x y v w. alone }
+sizes = record { takes_all = λ κs inputs. tt; one_answer = λ κs inputs x y v w. told_alone no_sizes_found (λ (z : SizesAnswer). z.number) (λ (z : SizesAnswer). record { channels = z.channels; slots = z.slots; contents = z.contents; capacity = z.capacity; joined = z.joined }) sizes_left (λ r. refl) (λ r. refl) }
 
 pub channel : Promised ChannelContract.ended Channel.Reads.Asked Channel.Reads.Learnt
-channel = record { takes_all = λ κs inputs. tt; one_answer = λ κs inputs x y v w. alone }
+channel = record { takes_all = λ κs inputs. tt; one_answer = λ κs inputs x y v w. told_alone no_channel_found (λ (z : ChannelAnswer). z.number) (λ (z : ChannelAnswer). record { f = z.f; e = z.e; n = z.n; v = z.v }) channel_left (λ r. refl) (λ r. refl) }
 
 pub name : Promised NameContract.ended Name.Reads.Asked Name.Reads.Learnt
-name =
-    record {
-      takes_all = λ κs inputs. tt;
-      one_answer = λ κs inputs x y v w. with_lasts (λ (z : Naming). record { number = z.number; name = record { trch = record { 0 = z.name.channel }; bit = record { 0 = z.name.bit }; copy = z.name.copy } }) (λ (z : Naming). v);
-    }
+name = record { takes_all = λ κs inputs. tt; one_answer = λ κs inputs x y v w. told_alone no_name_found (λ (z : Naming). z.number) (λ (z : Naming). record { trch = record { 0 = z.name.channel }; bit = record { 0 = z.name.bit }; copy = z.name.copy }) naming_left (λ r. refl) (λ r. refl) }
 
 pub part : Promised PartContract.ended Part.Reads.Asked Part.Reads.Learnt
-part = record { takes_all = λ κs inputs. tt; one_answer = λ κs inputs x y v w. alone }
+part = record { takes_all = λ κs inputs. tt; one_answer = λ κs inputs x y v w. told_alone no_part_found (λ (z : PartAnswer). z.number) (λ (z : PartAnswer). record { start = z.start; length = z.length }) part_left (λ r. refl) (λ r. refl) }
 
 -- a part that is handed back is known by where it lies and what lies there
 pair_alone : {X Y L : Type 0} {l : L} {a b c : X} {d e f : Y} → a ≡ c → b ≡ c → d ≡ f → e ≡ f → (◌≡◌ {A = X × Y} (a, d) (b, e)) × (l ≡ l)

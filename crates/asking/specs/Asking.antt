@@ -1,7 +1,7 @@
 -- What asking for a sheet's sizes and for one channel's numbers answers.
-use Rattle.std.specs.Prelude.{List, [], ◌∷◌, ◌++◌, ℕ, ◌-◌, Result, Ok, Err}
+use Rattle.std.specs.Prelude.{List, [], ◌∷◌, ◌++◌, ℕ, ◌-◌, Result}
 use Rattle.counters.specs.Lines.{Line, line, first_of, given}
-use Rattle.counters.specs.Refusals.{refusal_number}
+use Rattle.counters.specs.Refusals.{number_of, value_or}
 use Rattle.counters.specs.declared.refusal.Refusal.{Refusal}
 use Rattle.sheet.specs.Fields.{sheet_of, encoded_of}
 use Rattle.sheet.specs.Sizes.{frames_of, size_of, encoded_all, equalised_all, capacity_all}
@@ -65,13 +65,21 @@ channel_answer s k = given (channel_number s k) (channel_in (sheet_of s) (k - 1)
 abbrev pub sizes_given : Sizes → SizesAnswer
 sizes_given s = sizes_made 0 s.channels s.slots s.contents s.capacity s.joined
 
+abbrev pub no_sizes_found : Sizes
+no_sizes_found = record { channels = 0; slots = 0; contents = 0; capacity = 0; joined = 0 }
+
 abbrev pub sizes_left : Result Sizes Refusal → SizesAnswer
-sizes_left (Ok s) = sizes_given s
-sizes_left (Err r) = no_sizes (refusal_number r)
+sizes_left r =
+    let s = value_or no_sizes_found r in
+    sizes_made (number_of r) s.channels s.slots s.contents s.capacity s.joined
 
 abbrev pub channel_given : Channel → ChannelAnswer
 channel_given c = channel_made 0 c.f c.e c.n c.v
 
+abbrev pub no_channel_found : Channel
+no_channel_found = record { f = 0; e = 0; n = 0; v = 0 }
+
 abbrev pub channel_left : Result Channel Refusal → ChannelAnswer
-channel_left (Ok c) = channel_given c
-channel_left (Err r) = no_channel (refusal_number r)
+channel_left r =
+    let c = value_or no_channel_found r in
+    channel_made (number_of r) c.f c.e c.n c.v

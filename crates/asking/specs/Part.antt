@@ -1,7 +1,7 @@
 -- What asking for a channel's part of a multiplexed frame answers, and the part.
-use Rattle.std.specs.Prelude.{List, [], ◌∷◌, ◌++◌, ℕ, ◌+◌, ◌-◌, ◌*◌, Result, Ok, Err, length}
+use Rattle.std.specs.Prelude.{List, [], ◌∷◌, ◌++◌, ℕ, ◌+◌, ◌-◌, ◌*◌, Result, length}
 use Rattle.counters.specs.Lines.{Line, line, first_of, given}
-use Rattle.counters.specs.Refusals.{refusal_number}
+use Rattle.counters.specs.Refusals.{number_of, value_or}
 use Rattle.counters.specs.declared.refusal.Refusal.{Refusal}
 use Rattle.sheet.specs.Fields.{sheet_of}
 use Rattle.sheet.specs.Sizes.{capacity_all}
@@ -41,9 +41,13 @@ part_answer s k n = given (part_number s k n) (part_in (sheet_of s) (k - 1)) (no
 abbrev pub part_given : Part → PartAnswer
 part_given p = part_made 0 p.start p.length
 
+abbrev pub no_part_found : Part
+no_part_found = record { start = 0; length = 0 }
+
 abbrev pub part_left : Result Part Refusal → PartAnswer
-part_left (Ok p) = part_given p
-part_left (Err r) = no_part (refusal_number r)
+part_left r =
+    let p = value_or no_part_found r in
+    part_made (number_of r) p.start p.length
 
 -- the part of a multiplexed frame of anything: empty where refused
 abbrev pub part_of : {A : Type 0} → List ℕ → ℕ → List A → List A

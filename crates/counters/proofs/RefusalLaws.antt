@@ -72,3 +72,14 @@ answer_same (Ok x) (Ok y) n i = ap Ok i
 answer_same (Ok x) (Err b) n i = absurd (omega (arith, refusal_positive b))
 answer_same (Err a) (Ok y) n i = absurd (omega (arith, refusal_positive a))
 answer_same (Err a) (Err b) n i = ap Err (refusal_same a b n i)
+
+-- two answers are one where what a caller is told of them is: it has the number and what was asked for
+module _ {A X : Type 0} (d : A) (number : X → ℕ) (value : X → A) (told : Result A Refusal → X)
+    (numbers : (r : Result A Refusal) → number (told r) ≡ number_of r) (values : (r : Result A Refusal) → value (told r) ≡ value_or d r) where
+  pub told_same : {x y : Result A Refusal} {a : X} → told x ≡ a → told y ≡ a → index_of x ≡ index_of y → x ≡ y
+  told_same {x} {y} p q i =
+      let e = p ∙ sym q in
+      result_same d x y (sym (numbers x) ∙ ap number e ∙ numbers y) i (sym (values x) ∙ ap value e ∙ values y)
+
+  pub told_alone : {L : Type 0} {l : L} {x y : Result A Refusal} {a : X} → (told x ≡ a) × (index_of x ≡ 0) → (told y ≡ a) × (index_of y ≡ 0) → (x ≡ y) × (l ≡ l)
+  told_alone p q = (told_same p.0 q.0 (p.1 ∙ sym q.1), refl)

@@ -1,10 +1,14 @@
 -- Laws of what a call leaves.
-use mathlib.Core.Path.{◌≡◌, sym, ◌∙◌}
+use mathlib.Core.Path.{◌≡◌, sym, ap, ◌∙◌}
 use mathlib.Core.List.{List}
 use Prim.Native.Nat.{ℕ}
-use Rattle.counters.specs.declared.Answer.{Answer}
+use Rattle.std.specs.Prelude.{Result}
+use Rattle.counters.specs.Lines.{given}
+use Rattle.counters.specs.Refusals.{refusal_number, number_of, at_of}
+use Rattle.counters.specs.declared.refusal.Refusal.{Refusal}
 use Rattle.counters.proofs.LineLaws.{given_yes, given_no}
 use Rattle.counters.proofs.PromiseLaws.{with_lasts}
+use Rattle.counters.proofs.RefusalLaws.{answer_same, refusal_positive}
 use Rattle.looking.specs.Outcome.{Outcome, outcome, wrote}
 
 module _ {A : Type 0} where
@@ -22,11 +26,13 @@ module _ {A : Type 0} where
       made e (p ∙ sym (given_yes n count 0 (sym e))) (q ∙ sym (given_yes n new old (sym e)))
 
   -- two that are equal to one: in Rattle an answer and the buffer, in C the number, the buffer and `at`
-  module _ {L : Type 0} {a b c : Outcome A} where
-    pub answer_and : (lasts : List A → L) → a ≡ c → b ≡ c
-        → (◌≡◌ {A = Answer} (record { number = a.number; at = a.at }) (record { number = b.number; at = b.at })) × (lasts a.buffer ≡ lasts b.buffer)
-    answer_and lasts = with_lasts (λ (z : Outcome A). record { number = z.number; at = z.at }) (λ (z : Outcome A). lasts z.buffer)
+  pub answer_and : {L : Type 0} (lasts : List A → L) {x y : Result ℕ Refusal} {a b : List A} {c : Outcome A} → outcome (number_of x) (at_of x) a ≡ c
+      → outcome (number_of y) (at_of y) b ≡ c → (x ≡ y) × (lasts a ≡ lasts b)
+  answer_and lasts {x} {y} p q =
+      let e = p ∙ sym q in
+      (answer_same x y (ap (λ (z : Outcome A). z.number) e) (ap (λ (z : Outcome A). z.at) e), ap (λ (z : Outcome A). lasts z.buffer) e)
 
+  module _ {L : Type 0} {a b c : Outcome A} where
     pub number_and : (lasts : List A → ℕ → L) → a ≡ c → b ≡ c
         → (a.number ≡ b.number) × (lasts a.buffer a.at ≡ lasts b.buffer b.at)
     number_and lasts = with_lasts (λ (z : Outcome A). z.number) (λ (z : Outcome A). lasts z.buffer z.at)
