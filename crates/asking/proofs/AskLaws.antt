@@ -15,8 +15,8 @@ use Rattle.opening.specs.declared.OpenAnswer.{OpenAnswer}
 use Rattle.opening.proofs.OpenLaws.{number_open, fields_open}
 use Rattle.looking.specs.Looking.{no_trch}
 use Rattle.asking.specs.Asking.{sizes_in, no_sizes, sizes_answer, channel_number, channel_in, no_channel, channel_answer}
-use Rattle.asking.specs.declared.SizesAnswer.{SizesAnswer}
-use Rattle.asking.specs.declared.ChannelAnswer.{ChannelAnswer}
+use Rattle.asking.specs.Asking.{SizesAnswer}
+use Rattle.asking.specs.Asking.{ChannelAnswer}
 
 pub sizes_same : (sh : Sheet) {c t e d j : ℕ} → c ≡ sh.channels → t ≡ sh.slots → e ≡ (sizes_in sh).contents → d ≡ (sizes_in sh).capacity → j ≡ (sizes_in sh).joined
     → ◌≡◌ {A = SizesAnswer} (record { number = 0; channels = c; slots = t; contents = e; capacity = d; joined = j }) (sizes_in sh)

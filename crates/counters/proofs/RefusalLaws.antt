@@ -5,7 +5,8 @@ use Prim.Native.Nat.{ℕ, ◌<◌}
 use native.Mathlib.Omega.{arith}
 use lib.Dec.{eqb}
 use Rattle.std.specs.Prelude.{Result, Ok, Err}
-use Rattle.counters.specs.Refusals.{refusal_number, refusal_at, number_of, index_of, at_of, value_or}
+use Rattle.counters.specs.Lines.{Answer}
+use Rattle.counters.specs.Refusals.{refusal_number, refusal_at, number_of, index_of, at_of, value_or, answer_in}
 use Rattle.counters.specs.declared.refusal.Refusal.{Refusal}
 use Rattle.counters.specs.declared.refusal.Refusal.TheVariants.{ShortSheet, OtherVersion, NoSlots, Malformed, NoCapacity, ManyBits, ManyPlaces, NoBits, LateFrame, Missing, WrongLength, BadValue, BadUplink, BadSubframe}
 
@@ -72,6 +73,11 @@ answer_same (Ok x) (Ok y) n i = ap Ok i
 answer_same (Ok x) (Err b) n i = absurd (omega (arith, refusal_positive b))
 answer_same (Err a) (Ok y) n i = absurd (omega (arith, refusal_positive a))
 answer_same (Err a) (Err b) n i = ap Err (refusal_same a b n i)
+
+pub count_same : {x y : Result ℕ Refusal} {a : Answer} → answer_in x ≡ a → answer_in y ≡ a → x ≡ y
+count_same {x} {y} p q =
+    let e = p ∙ sym q in
+    answer_same x y (ap (λ (z : Answer). z.number) e) (ap (λ (z : Answer). z.at) e)
 
 -- two answers are one where what a caller is told of them is: it has the number and what was asked for
 module _ {A X : Type 0} (d : A) (number : X → ℕ) (value : X → A) (told : Result A Refusal → X)

@@ -11,13 +11,13 @@ use lib.Ieee.{Float, nan}
 use lib.ListN.{length, take, drop}
 use Rattle.laws.specs.FirstFail.{first_fail}
 use Rattle.counters.specs.Lines.{Line, line, first_of, answer_of}
-use Rattle.counters.specs.declared.Answer.{Answer}
+use Rattle.counters.specs.Lines.{Answer}
 use Rattle.counters.proofs.LineLaws.{given_yes, given_no, given_read, given_pair}
 use Rattle.sheet.specs.Fields.{sheet_of, blank, encoded_of}
 use Rattle.sheet.specs.Sizes.{encoded_all, equalised_all, capacity_all, bytes_needed}
 use Rattle.sheet.specs.Numbers.{read_number, read_answer}
 use Rattle.sheet.specs.declared.Sheet.{Sheet}
-use Rattle.sheet.specs.declared.SheetAnswer.{SheetAnswer}
+use Rattle.sheet.specs.Numbers.{SheetAnswer}
 use Rattle.writing.specs.Numbers.{field_lines, write_lines}
 use Rattle.writing.specs.Written.{bytes_of, length_answer}
 use Rattle.frame.specs.Frame.{spread, multiplexed_bits, bit_frame}
@@ -38,14 +38,14 @@ use Rattle.sheets.specs.Sheets.{read_into, write_into, length_from, write_from}
 use Rattle.asking.specs.Asking.{sizes_answer, sizes_in, no_sizes, channel_answer, channel_in, no_channel, channel_number}
 use Rattle.asking.specs.Part.{part_number, part_answer, part_in, no_part, part_of, part_at}
 use Rattle.asking.specs.Naming.{Naming, name_answer, no_name}
-use Rattle.asking.specs.declared.SizesAnswer.{SizesAnswer}
-use Rattle.asking.specs.declared.ChannelAnswer.{ChannelAnswer}
-use Rattle.asking.specs.declared.part.PartAnswer.{PartAnswer}
+use Rattle.asking.specs.Asking.{SizesAnswer}
+use Rattle.asking.specs.Asking.{ChannelAnswer}
+use Rattle.asking.specs.Part.{PartAnswer}
 use Rattle.sending.specs.Building.{build_into, multiplex_into, spread_into}
 use Rattle.receiving.specs.Receiving.{gather_into, take_into, finish_into}
 use Rattle.receiving.specs.Listening.{no_bit, heard_lines, heard_answer, link_answer, Numbers, heard_numbers}
-use Rattle.receiving.specs.declared.listening.HeardAnswer.{HeardAnswer}
-use Rattle.receiving.specs.declared.listening.LinkAnswer.{LinkAnswer}
+use Rattle.receiving.specs.Listening.{HeardAnswer}
+use Rattle.receiving.specs.Listening.{LinkAnswer}
 use Rattle.demands.specs.Exactly.{Saying}
 use Rattle.demands.specs.Answers.{Answers, Points}
 use Rattle.demands.specs.Table.{BadByte, BadSoft, row_length}

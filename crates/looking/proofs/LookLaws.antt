@@ -10,7 +10,7 @@ use lib.ListN.{length}
 use Rattle.laws.specs.FirstFail.{first_fail}
 use Rattle.laws.proofs.TestLaws.{or_left, or_right}
 use Rattle.counters.specs.Lines.{Line, line, first_of, given}
-use Rattle.counters.specs.declared.Answer.{Answer}
+use Rattle.counters.specs.Lines.{Answer}
 use Rattle.counters.proofs.CountLaws.{both_true}
 use Rattle.counters.proofs.LineLaws.{Numbered, none, more, each, pass_zero, clear_of, of_clear, append_clear, append-zero, last-holds, last_clear, first-append, given_yes, given_no}
 use Rattle.sheet.specs.Counts.{most_bits}

@@ -10,7 +10,7 @@ use lib.Ieee.{Float, nan}
 use Rattle.laws.proofs.TestLaws.{or_left, or_right}
 use Rattle.counters.specs.Counting.{among}
 use Rattle.counters.specs.Lines.{Line, line, first_of, given}
-use Rattle.counters.specs.declared.Answer.{Answer}
+use Rattle.counters.specs.Lines.{Answer}
 use Rattle.counters.specs.declared.BitNumber.{BitNumber}
 use Rattle.counters.specs.declared.TrchNumber.{TrchNumber}
 use Rattle.counters.proofs.CountLaws.{among_not}
@@ -34,8 +34,8 @@ use Rattle.looking.specs.Looking.{frame_lines, no_trch, look_lines, indexed, loo
 use Rattle.looking.proofs.LookLaws.{trch_there, Early, early_numbered, early_not, early_more, early_frame, begun_fields, either_left}
 use Rattle.receiving.specs.Listening.{no_bit, heard_answer, numbers, heard_numbers, link_answer}
 use Rattle.receiving.specs.Listened.{missing, listen_lines, unheard, listened_made, listened_of}
-use Rattle.receiving.specs.declared.listening.HeardAnswer.{HeardAnswer}
-use Rattle.receiving.specs.declared.listening.LinkAnswer.{LinkAnswer}
+use Rattle.receiving.specs.Listening.{HeardAnswer}
+use Rattle.receiving.specs.Listening.{LinkAnswer}
 use Rattle.receiving.specs.declared.listening.Listened.{Listened}
 
 -- ---- what is wanted

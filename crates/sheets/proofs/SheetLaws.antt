@@ -7,13 +7,13 @@ use native.Mathlib.Omega.{arith}
 use borrow.Author.Tests.{eq-eqb, ne_eqb}
 use lib.ListN.{length}
 use Rattle.counters.specs.Lines.{line, answer_of}
-use Rattle.counters.specs.declared.Answer.{Answer}
+use Rattle.counters.specs.Lines.{Answer}
 use Rattle.counters.proofs.LineLaws.{here, past, last-holds, last_clear, first-append}
 use Rattle.sheet.specs.Fields.{sheet_of}
 use Rattle.sheet.specs.Numbers.{read_lines, read_answer}
 use Rattle.sheet.specs.Sizes.{bytes_needed}
 use Rattle.sheet.specs.declared.Sheet.{Sheet}
-use Rattle.sheet.specs.declared.SheetAnswer.{SheetAnswer}
+use Rattle.sheet.specs.Numbers.{SheetAnswer}
 use Rattle.sheet.proofs.NumberLaws.{read_numbered, number_read, fields_read}
 use Rattle.writing.specs.Numbers.{field_number, write_number}
 use Rattle.writing.specs.Written.{bytes_of, length_answer, write_answer, written_to}

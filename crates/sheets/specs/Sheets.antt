@@ -1,7 +1,7 @@
 -- What reading a sheet, asking for its length and writing it leave.
 use Rattle.std.specs.Prelude.{Bool, List, [], ◌∷◌, ◌++◌, ℕ, length}
 use Rattle.counters.specs.Lines.{Line, line, first_of, answer_of}
-use Rattle.counters.specs.declared.Answer.{Answer}
+use Rattle.counters.specs.Lines.{Answer}
 use Rattle.sheet.specs.Fields.{sheet_of}
 use Rattle.sheet.specs.Sizes.{bytes_needed}
 use Rattle.sheet.specs.Numbers.{read_lines}

@@ -4,15 +4,15 @@ use mathlib.Core.List.{List}
 use Prim.Native.Nat.{ℕ}
 use lib.Ieee.{Float}
 use Rattle.counters.specs.Promised.{Promised}
-use Rattle.counters.specs.declared.Answer.{Answer}
+use Rattle.counters.specs.Lines.{Answer}
 use Rattle.counters.proofs.PromiseLaws.{with_lasts}
 use Rattle.looking.proofs.OutcomeLaws.{number_and}
 use Rattle.asking.specs.Naming.{Naming}
-use Rattle.asking.specs.declared.SizesAnswer.{SizesAnswer}
-use Rattle.asking.specs.declared.ChannelAnswer.{ChannelAnswer}
-use Rattle.asking.specs.declared.part.PartAnswer.{PartAnswer}
+use Rattle.asking.specs.Asking.{SizesAnswer}
+use Rattle.asking.specs.Asking.{ChannelAnswer}
+use Rattle.asking.specs.Part.{PartAnswer}
 use Rattle.receiving.specs.Listening.{Numbers}
-use Rattle.receiving.specs.declared.listening.LinkAnswer.{LinkAnswer}
+use Rattle.receiving.specs.Listening.{LinkAnswer}
 use Rattle.ummervia.proofs.exports.umv_sheet_read as UmvSheetRead
 use Rattle.ummervia.specs.contracts.exports.umv_sheet_read as UmvSheetReadContract
 use Rattle.ummervia.proofs.exports.umv_sheet_length as UmvSheetLength

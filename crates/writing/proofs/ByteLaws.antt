@@ -10,7 +10,7 @@ use lib.ListN.{length, get_or, get_or-eq_default, get_or-append}
 use lib.Seq.{get_or-append-add}
 use Rattle.laws.proofs.TableLaws.{table_at}
 use Rattle.counters.specs.Lines.{given, answer_of}
-use Rattle.counters.specs.declared.Answer.{Answer}
+use Rattle.counters.specs.Lines.{Answer}
 use Rattle.counters.proofs.LineLaws.{given_yes, given_no}
 use Rattle.bits.specs.Bits.{digit, field}
 use Rattle.bits.proofs.BitLaws.{field-length}
