@@ -1,5 +1,5 @@
 -- Laws of an opened sheet.
-use mathlib.Core.Path.{◌≡◌, refl, sym, ap, ◌∙◌, subst}
+use mathlib.Core.Path.{◌≡◌, sym, ap, ◌∙◌}
 use mathlib.Core.List.{List}
 use Prim.Native.Nat.{ℕ, ◌+◌, ◌≤◌, ◌<◌}
 use native.Mathlib.Numerals.{add-one}
@@ -21,7 +21,7 @@ use Rattle.sheet.proofs.FieldLaws.{ranged_in, caps-whole}
 use Rattle.sheet.proofs.NumberLaws.{loads-zero, readable}
 use Rattle.matching.specs.Shares.{weight_of, weight_all, cut_of, share_of, channel_of}
 use Rattle.matching.proofs.ShareLaws.{weight_heard, cut_first, cut_last, cut_up, cuts_rise, cuts_at, share_most, channel_passes}
-use Rattle.opening.specs.Opened.{sizes_of, opened_of, Opens}
+use Rattle.opening.specs.Opened.{sizes_of}
 use Rattle.opening.specs.declared.Opened.{Opened}
 
 -- N of each channel, by the arrays, filled up to k
@@ -58,31 +58,31 @@ pub accepted_in : (s : List ℕ) → read_number s ≡ 0 → Accepted (sheet_of 
 accepted_in s z = record { ranged = ranged_in s; loads = (readable s z).loads; whole = caps-whole s }
 
 -- what stands in an opened sheet
-module _ (o : Opened) (h : Opens o) (i : ℕ) (l : i < o.fields.channels) where
+module _ (o : Opened) (i : ℕ) (l : i < o.fields.channels) where
   abbrev few : o.fields.channels ≤ most_channels
-  few = h.accepted.ranged.few_channels
+  few = o.accepted.ranged.few_channels
 
   pub size_is : get_or o.sizes i 0 ≡ size_of o.fields i
-  size_is = ap (λ (x : Opened). get_or x.sizes i 0) h.own ∙ sizes_at o.fields i few l
+  size_is = ap (λ (x : List ℕ). get_or x i 0) o.sizes_own ∙ sizes_at o.fields i few l
 
   pub low-is : get_or o.cuts i 0 ≡ cut_of o.fields i
-  low-is = ap (λ (x : Opened). get_or x.cuts i 0) h.own ∙ cuts_at o.fields i few (omega arith)
+  low-is = ap (λ (x : List ℕ). get_or x i 0) o.cuts_own ∙ cuts_at o.fields i few (omega arith)
 
   pub high_is : get_or o.cuts (i + 1) 0 ≡ cut_of o.fields (i + 1)
-  high_is = ap (λ (x : Opened). get_or x.cuts (i + 1) 0) h.own ∙ cuts_at o.fields (i + 1) few (omega arith)
+  high_is = ap (λ (x : List ℕ). get_or x (i + 1) 0) o.cuts_own ∙ cuts_at o.fields (i + 1) few (omega arith)
 
   pub cut_rises : get_or o.cuts i 0 ≤ get_or o.cuts (i + 1) 0
   cut_rises =
       let f = o.fields in
-      omega (arith, low-is, high_is, cut_up (capacity_all f) (weight_of f) f.channels (weighs f h.accepted) i)
+      omega (arith, low-is, high_is, cut_up (capacity_all f) (weight_of f) f.channels (weighs f o.accepted) i)
 
 -- Z_I is D
-pub last-is : (o : Opened) → Opens o → get_or o.cuts o.fields.channels 0 ≡ capacity_all o.fields
-last-is o h =
+pub last-is : (o : Opened) → get_or o.cuts o.fields.channels 0 ≡ capacity_all o.fields
+last-is o =
     let f = o.fields in
-    ap (λ (x : Opened). get_or x.cuts f.channels 0) h.own
-    ∙ cuts_at f f.channels h.accepted.ranged.few_channels (omega arith)
-    ∙ cut_last (capacity_all f) (weight_of f) f.channels (weighs f h.accepted)
+    ap (λ (x : List ℕ). get_or x f.channels 0) o.cuts_own
+    ∙ cuts_at f f.channels o.accepted.ranged.few_channels (omega arith)
+    ∙ cut_last (capacity_all f) (weight_of f) f.channels (weighs f o.accepted)
 
 -- the walk over the Z: those up to i are not above x
 pub record Under (z : List ℕ) (x i : ℕ) : Type 0 where
@@ -92,7 +92,7 @@ pub under_more : (z : List ℕ) (x i : ℕ) → Under z x i → get_or z (i + 1)
 under_more z x i u h =
     record { all = λ k l. split k i (λ le. u.all k le) (λ lt. let e : k ≡ i + 1 = omega arith in rw e h) }
 
-module _ (o : Opened) (h : Opens o) (x : ℕ) (l : x < capacity_all o.fields) where
+module _ (o : Opened) (x : ℕ) (l : x < capacity_all o.fields) where
   abbrev of : Sheet
   of = o.fields
 
@@ -102,24 +102,20 @@ module _ (o : Opened) (h : Opens o) (x : ℕ) (l : x < capacity_all o.fields) wh
         all =
             λ k m.
             let e : k ≡ 0 = omega arith in
-            let n = low-is o h 0 h.accepted.ranged.one in
-            rw e (omega (arith, n, cut_first (capacity_all of) (weight_of of) of.channels (weighs of h.accepted)));
+            let n = low-is o 0 o.accepted.ranged.one in
+            rw e (omega (arith, n, cut_first (capacity_all of) (weight_of of) of.channels (weighs of o.accepted)));
       }
 
   -- Z_I is above x
   pub under_inside : (i : ℕ) → Under o.cuts x i → i < of.channels
-  under_inside i u = split of.channels i (λ le. absurd (omega (arith, u.all of.channels le, last-is o h))) (λ lt. lt)
+  under_inside i u = split of.channels i (λ le. absurd (omega (arith, u.all of.channels le, last-is o))) (λ lt. lt)
 
   -- the first Z above x is the channel's
   pub under_ends : (i : ℕ) → Under o.cuts x i → x < get_or o.cuts (i + 1) 0 → i ≡ channel_of of x
   under_ends i u b =
-      let w = weighs of h.accepted in
+      let w = weighs of o.accepted in
       let m = under_inside i u in
-      let hi : x < cut_of of (i + 1) = omega (arith, high_is o h i m) in
+      let hi : x < cut_of of (i + 1) = omega (arith, high_is o i m) in
       sym
       (passes_one (cut_of of) x of.channels (channel_of of x) i (cuts_rise (capacity_all of) (weight_of of) of.channels w)
-      (channel_passes of x w l) m (omega (arith, u.all i (omega arith), low-is o h i m)) (rw add-one at hi))
-
--- what an accepted opening is
-pub opens : (s : List ℕ) (o : Opened) → 0 ≡ read_number s → o ≡ opened_of (sheet_of s) → Opens o
-opens s o z e = subst Opens (sym e) (record { own = refl; accepted = accepted_in s (sym z) })
+      (channel_passes of x w l) m (omega (arith, u.all i (omega arith), low-is o i m)) (rw add-one at hi))

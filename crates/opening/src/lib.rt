@@ -8,8 +8,8 @@ ghost use Rattle.sheet.specs.Fields.{sheet_of};
 ghost use Rattle.sheet.specs.Sizes.{capacity_all};
 ghost use Rattle.sheet.specs.Numbers.{read_lines};
 ghost use Rattle.sheet.specs.Range.{Ranged, Accepted};
-ghost use Rattle.matching.specs.Shares.{share_of, channel_of};
-ghost use Rattle.opening.specs.Opened.{sizes_of, opened_of, Opens};
+ghost use Rattle.matching.specs.Shares.{cuts_of, share_of, channel_of};
+ghost use Rattle.opening.specs.Opened.{sizes_of};
 
 use counters::refusal::Refusal;
 use matching::shares::cuts;
@@ -19,12 +19,15 @@ use sheet::fields::read_fields;
 use sheet::reading::check_bytes;
 use sheet::sizes::segment;
 
-// The fields; N of each channel, 0 past I; Z_0 to Z_I, 0 past them. N is at most E and Z at most D, so that 16 bits hold each.
+// The fields of an accepted sheet; N of each channel, 0 past I; Z_0 to Z_I, 0 past them. N is at most E and Z at most D, so that 16 bits hold each.
 #[derive(Clone, Copy)]
 pub struct Opened {
     pub fields: Sheet,
     pub sizes: [u16; CHANNELS],
     pub cuts: [u16; CHANNELS + 1],
+    pub ghost accepted: { Accepted fields },
+    pub ghost sizes_own: { sizes ≡ sizes_of fields },
+    pub ghost cuts_own: { cuts ≡ cuts_of fields },
 }
 
 // N of each channel, 0 past I.
@@ -42,7 +45,7 @@ fn sizes(fields: &Sheet) -> [u16; CHANNELS]
 // The numbers of accepted fields and their D.
 fn open_fields(fields: Sheet, d: u64) -> Opened
     requires { Accepted fields × (d ≡ capacity_all fields) }
-    ensures { result ≡ opened_of fields }
+    ensures { result.fields ≡ fields }
 {
     let sizes = sizes(&fields);
     let cuts = cuts(&fields, d);
@@ -56,8 +59,7 @@ fn open_fields(fields: Sheet, d: u64) -> Opened
 // Opens a sheet's bytes: every call begins with this.
 pub fn open_sheet(bytes: &[u8]) -> Result<Opened, Refusal>
     ensures number { Refuses (read_lines bytes.now) result }
-    ensures opened { IfOk result (λ o. o ≡ opened_of (sheet_of bytes.now)) }
-    ensures opens { IfOk result (λ o. Opens o) }
+    ensures opened { IfOk result (λ o. o.fields ≡ sheet_of bytes.now) }
 {
     let fields = read_fields(bytes);
     let w = check_bytes(bytes, &fields)?;
@@ -68,7 +70,6 @@ pub fn open_sheet(bytes: &[u8]) -> Result<Opened, Refusal>
 impl Opened {
     // D, which the last Z is.
     pub fn capacity(&self) -> u64
-        requires { Opens self.now }
         ensures { (result ≡ capacity_all self.now.fields) × (result ≤ most_bits) }
     {
         u64::from(self.cuts[usize::from(self.fields.channels)])
@@ -76,7 +77,7 @@ impl Opened {
 
     // V of channel i, counted from 0.
     pub fn share(&self, i: usize) -> u64
-        requires { Opens self.now × (i < self.now.fields.channels) }
+        requires { i < self.now.fields.channels }
         ensures { result ≡ share_of self.now.fields i }
     {
         u64::from(self.cuts[i + 1] - self.cuts[i])
@@ -84,7 +85,7 @@ impl Opened {
 
     // Step 7: the channel, counted from 0, in whose part index x of the multiplexed frame lies.
     pub fn channel_at(&self, x: u64) -> usize
-        requires { Opens self.now × (x < capacity_all self.now.fields) }
+        requires { x < capacity_all self.now.fields }
         ensures { (result ≡ channel_of self.now.fields x) × (result < self.now.fields.channels) }
     {
         for i in 0..usize::from(self.fields.channels) {

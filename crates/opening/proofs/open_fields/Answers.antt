@@ -7,6 +7,3 @@ cuts-cuts-requires c =
     let f = c.args.fields in
     let a = c.requires.0 in
     (a.ranged, weighs f a, c.requires.1, omega (arith, c.requires.1, capacity_most f a))
-
-pub returns : goal.returns
-returns c = rw (c.sizes-sizes.ensures, c.cuts-cuts.ensures)

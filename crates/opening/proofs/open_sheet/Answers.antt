@@ -1,8 +1,7 @@
-use mathlib.Core.Path.{sym, ap, subst, ◌∙◌}
+use mathlib.Core.Path.{sym, subst}
 use Rattle.sheet.specs.Range.{Ranged, Accepted}
 use Rattle.sheet.proofs.FieldLaws.{ranged_in}
-use Rattle.opening.specs.Opened.{opened_of}
-use Rattle.opening.proofs.OpenLaws.{accepted_in, opens}
+use Rattle.opening.proofs.OpenLaws.{accepted_in}
 use Rattle.opening.proofs.open_sheet.Goals.{After-read_fields-fields}
 use Rattle.opening.proofs.open_sheet.Goals as goal
 
@@ -20,7 +19,3 @@ open_fields-requires c = (
   subst Accepted (sym c.read_fields-fields.ensures) (accepted_in c.args.bytes.now (sym c.in_ok-w.ensures.number.0)),
   c.frame_places-d.ensures,
 )
-
-pub returns-clause-opens : goal.returns-clause-opens
-returns-clause-opens c =
-    opens c.args.bytes.now c.open_fields.result c.in_ok-w.ensures.number.0 (c.open_fields.ensures ∙ ap opened_of c.read_fields-fields.ensures)
