@@ -13,7 +13,7 @@ use Rattle.laws.proofs.TodoLaws.{Todo, todo_all, todo_turn, todo_over, todo_put,
 use Rattle.matching.specs.Signed.{signed_by}
 use Rattle.pattern.specs.Pattern.{walked, matched, as_is, Rates, Segment}
 use Rattle.pattern.specs.Every.{every, Strided}
-use Rattle.pattern.specs.Run.{Copied, Ran}
+use Rattle.pattern.specs.Run.{Copied, Gone}
 use Rattle.pattern.proofs.WalkLaws.{walked_keep, walked-drop, walked_more, walked-map, walked_of}
 use Rattle.pattern.proofs.MatchedLaws.{length-matched}
 use Rattle.pattern.proofs.SegmentLaws.{matched_by}
@@ -120,20 +120,21 @@ module _ {less : Bool} {m n from step : ℕ} {src : List ℕ} {start : ℕ} {old
       let qj : j + 0 ≡ j = omega arith in
       rw (qe, qk, qj) s
 
-  sending_keeps : (c : ℕ) → Sending less m n from step src start old dst e k j → Strided step n (length src) → step ≡ 1 → c * (2 * m) < e
+  sending_keeps : (c : ℕ) → Sending less m n from step src start old dst e k j → Strided step n (length src) → (0 < c → step ≡ 1) → c * (2 * m) < e
       → ((i : ℕ) → i < c → j + i < length src) → ((i : ℕ) → i < c → get_or dst (k + i) 0 ≡ get_or src (j + i) 0)
       → Sending less m n from step src start old dst (e - c * (2 * m)) (k + c) (j + c)
   sending_keeps zero s w q h b t = sending_none s
   sending_keeps (suc c) s w q h b t =
-      let g = sending_keeps c s w q (omega (arith, suc-mul c (2 * m))) (λ i l. b i (omega arith)) (λ i l. t i (omega arith)) in
-      sending_next e k j c g w q h (b c (omega arith)) (t c (omega arith))
+      let g = sending_keeps c s w (λ h. q (omega arith)) (omega (arith, suc-mul c (2 * m))) (λ i l. b i (omega arith)) (λ i l. t i (omega arith)) in
+      sending_next e k j c g w (q (omega arith)) h (b c (omega arith)) (t c (omega arith))
 
 pub sending_run : {less : Bool} {m n from step : ℕ} {src : List ℕ} {start : ℕ} {old dst dst' : List ℕ} {e k j e' k' j' : ℕ}
-    → Sending less m n from step src start old dst e k j → Strided step n (length src) → step ≡ 1 → Ran (2 * m) src dst dst' e k j e' k' j'
+    → Sending less m n from step src start old dst e k (j + step) → Strided step n (length src) → Gone step (2 * m) src dst dst' e k j e' k' j'
     → Sending less m n from step src start old dst' e' k' j'
-sending_run {m = m} {e = e} {e' = e'} s w one r =
+sending_run {m = m} {e = e} {e' = e'} s w g =
+    let r = g.run in
     let q : e' ≡ e - r.bits * (2 * m) = omega (arith, r.falls) in
-    rw (q, r.puts, r.reads) (sending_keeps r.bits (sending_put s r.copied) w one (omega (arith, r.falls, r.above)) r.within r.copied.there)
+    rw (q, r.puts, r.reads) (sending_keeps r.bits (sending_put s r.copied) w g.beside (omega (arith, r.falls, r.above)) r.within r.copied.there)
 
 -- a bit that is dropped
 pub sending_drop : {m n from step : ℕ} {src : List ℕ} {start : ℕ} {old dst : List ℕ} {e k j : ℕ} (s : Sending true m n from step src start old dst e k j)

@@ -8,7 +8,7 @@ use native.Mathlib.Omega.{arith}
 use lib.ListN.{length, get_or, set}
 use Rattle.laws.proofs.TestLaws.{split}
 use Rattle.laws.proofs.WrittenLaws.{write_none, write_one}
-use Rattle.pattern.specs.Run.{Copied, Ran}
+use Rattle.pattern.specs.Run.{Copied, Ran, Gone}
 
 -- no bit
 pub ran_none : (q : ℕ) (src old : List ℕ) (e k j : ℕ) → 0 < e → Ran q src old old e k j e k j
@@ -22,6 +22,11 @@ ran_none q src old e k j h =
       within = λ i l. absurd (omega arith);
       copied = write_none 0 _ old k;
     }
+
+-- to the next bit, with no run behind it
+pub gone_none : (step q : ℕ) (src old : List ℕ) (e k j : ℕ) → 0 < e → Gone step q src old old e k j e k (j + step)
+unfolding ran_none
+gone_none step q src old e k j h = record { run = ran_none q src old e k (j + step) h; beside = λ l. absurd (omega arith) }
 
 -- n bits, for e stands above n falls
 pub ran_copied : {q : ℕ} {src old list : List ℕ} {e k j n : ℕ} → Copied src old list j k n → n * q < e → j + n ≤ length src

@@ -15,3 +15,8 @@ pub record Ran (q : ℕ) (src old list : List ℕ) (e k j e' k' j' : ℕ) : Type
   pub reads : j' ≡ j + bits
   pub within : (i : ℕ) → i < bits → j + i < length src
   pub copied : Copied src old list j k bits
+
+-- from one bit to the next, `step` further on, and by a run of bits behind it where they stand side by side
+pub record Gone (step q : ℕ) (src old list : List ℕ) (e k j e' k' j' : ℕ) : Type 0 where
+  pub run : Ran q src old list e k (j + step) e' k' j'
+  pub beside : 0 < run.bits → step ≡ 1

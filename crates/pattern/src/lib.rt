@@ -10,7 +10,7 @@ ghost use Rattle.pattern.specs.Every.{every, Strided};
 pub mod closed;
 pub mod runs;
 
-use crate::runs::{run_of, send_run};
+use crate::runs::{Stand, run_of};
 use matching::shares::Change;
 
 // Once the contents are read, whatever is still to be sent is a filler.
@@ -67,26 +67,18 @@ fn puncture(src: &[u8], n: usize, from: usize, step: usize, dst: &mut [u8], star
     let p = 2 * n;
     let q = 2 * m;
     let run = run_of(p, q);
-    let mut e = start;
-    let mut k: usize = 0;
-    let mut j = from;
-    while j < src.len() {
-        if q < e {
-            dst[k] = src[j];
-            k += 1;
-            e -= q;
+    let mut s = Stand::first(start, from);
+    while s.j < src.len() {
+        if q < s.e {
+            dst[s.k] = src[s.j];
+            s.k += 1;
+            s.e -= q;
         } else {
-            e = e + p - q;
+            s.e = s.e + p - q;
         }
-        j += step;
-        if step == 1 {
-            let t = send_run(src, j, dst, k, e, q, run);
-            e = t.e;
-            k = t.k;
-            j = t.j;
-        }
+        s = s.on(src, dst, step, q, run);
     }
-    fill(dst, k);
+    fill(dst, s.k);
 }
 
 // d > 0: each bit is sent as long as e would not stay above 0, e growing by 2N, and then once more, e falling by 2m.
@@ -97,28 +89,20 @@ fn repeat(src: &[u8], n: usize, from: usize, step: usize, dst: &mut [u8], start:
     let p = 2 * n;
     let q = 2 * m;
     let run = run_of(p, q);
-    let mut e = start;
-    let mut k: usize = 0;
-    let mut j = from;
-    while j < src.len() {
-        let bit = src[j];
-        while e <= q {
-            dst[k] = bit;
-            k += 1;
-            e += p;
+    let mut s = Stand::first(start, from);
+    while s.j < src.len() {
+        let bit = src[s.j];
+        while s.e <= q {
+            dst[s.k] = bit;
+            s.k += 1;
+            s.e += p;
         }
-        dst[k] = bit;
-        k += 1;
-        e -= q;
-        j += step;
-        if step == 1 {
-            let t = send_run(src, j, dst, k, e, q, run);
-            e = t.e;
-            k = t.k;
-            j = t.j;
-        }
+        dst[s.k] = bit;
+        s.k += 1;
+        s.e -= q;
+        s = s.on(src, dst, step, q, run);
     }
-    fill(dst, k);
+    fill(dst, s.k);
 }
 
 // The segment's bits to `dst`, by d and the start e.

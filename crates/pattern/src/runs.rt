@@ -1,8 +1,8 @@
 // Runs: after a bit that is dropped or repeated come bits that are sent once each. Where they stand side by side they are copied by blocks;
 // with a step between them blocks took as long as bit by bit, or longer.
 ghost use Rattle.std.specs.Prelude.{◌≡◌, ◌+◌, ◌-◌, ◌*◌, ◌^◌, ◌≤◌, ◌<◌, length};
-ghost use Rattle.sheet.specs.Counts.{most_bits};
-ghost use Rattle.pattern.specs.Run.{Copied, Ran};
+ghost use Rattle.sheet.specs.Counts.{most_bits, most_frames};
+ghost use Rattle.pattern.specs.Run.{Copied, Ran, Gone};
 
 // How many bits such a run has, where it has 16 or fewer: as often e falls by q and stays above 0. It is counted, since no division is spent
 // on it, and what it is matters for speed alone.
@@ -46,42 +46,62 @@ pub struct Stand {
     pub j: usize,
 }
 
-// Over bits side by side the walk goes on by `run` bits, where e stays above 0 and both ends are far enough, and by one bit more in some
-// runs. A run of one or two bits is not worth a block.
-pub fn send_run(
-    src: &[u8],
-    j: usize,
-    dst: &mut [u8],
-    k: usize,
-    e: usize,
-    q: usize,
-    run: usize,
-) -> Stand
-    requires { (run ≤ 16) × (q ≤ 2 * most_bits) × (0 < e) }
-    ensures { Ran q src.now dst.old dst.new e k j result.e result.k result.j }
-{
-    let fall = run * q;
-    let reach = run + 7;
-    let last = src.len().saturating_sub(reach);
-    let room = dst.len().saturating_sub(reach);
-    if run < 3 || e <= fall || last <= j || room <= k {
-        return Stand { e, k, j };
+impl Stand {
+    pub fn first(start: usize, from: usize) -> Stand
+        ensures { (result.e ≡ start) × (result.k ≡ 0) × (result.j ≡ from) }
+    {
+        Stand {
+            e: start,
+            k: 0,
+            j: from,
+        }
     }
-    copy_run(src, j, dst, k, run);
-    let low = e - fall;
-    let to = k + run;
-    let at = j + run;
-    if low <= q {
-        return Stand {
-            e: low,
-            k: to,
-            j: at,
+
+    // Over bits side by side the walk goes on by `run` bits, where e stays above 0 and both ends are far enough, and by one bit more in some
+    // runs. A run of one or two bits is not worth a block.
+    fn send_run(self, src: &[u8], dst: &mut [u8], q: usize, run: usize) -> Stand
+        requires { (run ≤ 16) × (q ≤ 2 * most_bits) × (0 < self.e) }
+        ensures { Ran q src.now dst.old dst.new self.e self.k self.j result.e result.k result.j }
+    {
+        let fall = run * q;
+        let reach = run + 7;
+        let last = src.len().saturating_sub(reach);
+        let room = dst.len().saturating_sub(reach);
+        if run < 3 || self.e <= fall || last <= self.j || room <= self.k {
+            return self;
+        }
+        copy_run(src, self.j, dst, self.k, run);
+        let low = self.e - fall;
+        let to = self.k + run;
+        let at = self.j + run;
+        if low <= q {
+            return Stand {
+                e: low,
+                k: to,
+                j: at,
+            };
+        }
+        dst[to] = src[at];
+        Stand {
+            e: low - q,
+            k: to + 1,
+            j: at + 1,
+        }
+    }
+
+    // On to the next bit, and where bits stand side by side over a run of them.
+    pub fn on(self, src: &[u8], dst: &mut [u8], step: usize, q: usize, run: usize) -> Stand
+        requires { (run ≤ 16) × (q ≤ 2 * most_bits) × (0 < self.e) × (self.j < length src.now) × (step ≤ most_frames) }
+        ensures { Gone step q src.now dst.old dst.new self.e self.k self.j result.e result.k result.j }
+    {
+        let next = Stand {
+            e: self.e,
+            k: self.k,
+            j: self.j + step,
         };
-    }
-    dst[to] = src[at];
-    Stand {
-        e: low - q,
-        k: to + 1,
-        j: at + 1,
+        if step == 1 {
+            return next.send_run(src, dst, q, run);
+        }
+        next
     }
 }

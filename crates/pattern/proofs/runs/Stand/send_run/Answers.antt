@@ -2,13 +2,13 @@ use native.Mathlib.Nat.{mul-le-mul_right}
 use native.Mathlib.Omega.{arith}
 use borrow.Author.Tests.{leb-false}
 use Rattle.pattern.proofs.RunLaws.{ran_none, ran_copied, ran_one}
-use Rattle.pattern.proofs.runs.send_run.Goals as goal
+use Rattle.pattern.proofs.runs.Stand.send_run.Goals as goal
 
 pub overflow_mul-fall : goal.overflow_mul-fall
 overflow_mul-fall c = let a = c.args in omega (arith, mul-le-mul_right {m = a.run} {n = 16} a.q c.requires.0)
 
 pub returns-then-run-lt3 : goal.returns-then-run-lt3
-returns-then-run-lt3 c = let a = c.args in ran_none a.q a.src.now a.dst.now a.e a.k a.j (omega arith)
+returns-then-run-lt3 c = let a = c.args in ran_none a.q a.src.now a.dst.now a.self.e a.self.k a.self.j (omega arith)
 
 pub copy_run-requires : goal.copy_run-requires
 copy_run-requires c = (omega (arith, leb-false), omega (arith, leb-false))
