@@ -6,4 +6,3 @@ pub mod SpreadLaws
 pub mod BlockLaws
 pub mod SendLaws
 pub mod Example
-pub mod BitLaws

@@ -1,13 +1,18 @@
 -- Laws of the first element that fails a test, as a loop looks for it.
-use mathlib.Core.Path.{◌≡◌, refl, ap, ◌∙◌}
-use mathlib.Core.Bool.{Bool, true, false, cond, ◌&&◌}
+use mathlib.Core.Path.{◌≡◌, refl, ap, ap₂, ◌∙◌}
+use mathlib.Core.Bool.{Bool, true, false, cond, not, ◌&&◌}
 use mathlib.Core.List.{List, [], ◌∷◌}
 use Prim.Native.Nat.{ℕ, zero, suc, ◌+◌, ◌≤◌, ◌<◌}
-use native.Mathlib.Numerals.{add-one}
+use native.Mathlib.Numerals.{add-one, one-add}
 use native.Mathlib.Omega.{arith}
-use lib.Dec.{eqb, eqb-zero-suc, eqb-suc-suc}
+use lib.Dec.{eqb, eqb-zero-suc, eqb-suc-suc, ltb}
 use lib.ListN.{length, get_or, take, drop}
 use lib.Seq.{drop-cons, drop-length}
+use Rattle.std.specs.List.{position_or_len}
+use Rattle.std.specs.Option.{MatchOption}
+use Rattle.std.specs.declared.option.Option.{Option}
+use Rattle.std.specs.declared.option.Option.TheVariants.{Some, None}
+use Rattle.std.proofs.lemmas.Bool.{ltb-true, ltb-false}
 use Rattle.laws.specs.FirstFail.{first_fail, NoneFails}
 
 module _ {A : Type 0} (ok : A → Bool) where
@@ -41,6 +46,23 @@ module _ {A : Type 0} (ok : A → Bool) where
       by : (b : Bool) → first_fail ok xs ≤ length xs → cond b (suc (first_fail ok xs)) 0 ≤ length (x ∷ xs)
       by true l = omega arith
       by false l = omega arith
+
+  -- what std's `position` answers by a test that an element fails
+  position_fails : (test : A → Bool) → ((x : A) → not (test x) ≡ ok x) → (xs : List A) → position_or_len test xs ≡ first_fail ok xs
+  unfolding first_fail
+  position_fails test t [] = refl
+  position_fails test t (x ∷ xs) =
+      ap₂ (λ (b : Bool) (m : ℕ). cond b m 0) (t x) (one-add (position_or_len test xs) ∙ ap suc (position_fails test t xs))
+
+  found : (p n : ℕ) (b : Bool) → p ≤ n → ltb p n ≡ b → MatchOption (cond b (Some p) None) (p ≡ n) (λ i. (i < n) × (i ≡ p))
+  found p n true l e = (ltb-true p n e, refl)
+  found p n false l e = let h : n ≤ p = ltb-false p n e in omega arith
+
+  pub fail-found : (test : A → Bool) → ((x : A) → not (test x) ≡ ok x) → (xs : List A) {r : Option ℕ}
+      → r ≡ cond (ltb (position_or_len test xs) (length xs)) (Some (position_or_len test xs)) None
+      → MatchOption r (first_fail ok xs ≡ length xs) (λ i. (i < length xs) × (i ≡ first_fail ok xs))
+  fail-found test t xs e =
+      rw (e, position_fails test t xs) (found (first_fail ok xs) (length xs) (ltb (first_fail ok xs) (length xs)) (fail_most xs) refl)
 
   -- it fails, and none before it does
   fails_step : (d x : A) (xs : List A) (m : ℕ) (b : Bool) → ok x ≡ b → cond b (suc m) 0 < suc (length xs) → (m < length xs → ok (get_or xs m d) ≡ false)

@@ -2,7 +2,7 @@ pub mod SumLaws
 pub mod TableLaws
 pub mod TestLaws
 pub mod LaidLaws
-pub mod MadeLaws
+pub mod FromFnLaws
 pub mod StoreLaws
 pub mod LeastLaws
 pub mod JoinedLaws
@@ -12,8 +12,6 @@ pub mod PartLaws
 pub mod FillingLaws
 pub mod TodoLaws
 pub mod FirstFailLaws
-pub mod AboveLaws
-pub mod PasteLaws
 pub mod TrailingLaws
 pub mod RoundLaws
 pub mod WrittenLaws

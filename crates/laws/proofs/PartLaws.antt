@@ -4,7 +4,7 @@ use mathlib.Core.List.{List, [], ◌∷◌, ◌++◌, map, flatten}
 use Prim.Native.Nat.{ℕ, zero, suc, ◌+◌, ◌-◌, ◌*◌, ◌≤◌, ◌<◌}
 use native.Mathlib.Nat.{zero-mul, suc-mul}
 use native.Mathlib.Omega.{arith}
-use lib.ListN.{length, get_or, set, take, drop, replicate, length-append, length-drop}
+use lib.ListN.{length, get_or, set, take, drop, replicate, length-drop}
 use lib.Seq.{length-take-le, take-add, take_all, drop-drop}
 use Rattle.laws.specs.Tables.{table}
 
@@ -61,7 +61,3 @@ module _ {A : Type 0} (n : ℕ) (l : List A) where
 -- a part of a list from a up to e
 pub part_length : {A : Type 0} (xs : List A) (a e : ℕ) → a ≤ e → e ≤ length xs → length (take (e - a) (drop a xs)) ≡ e - a
 part_length xs a e h b = length-take-le (e - a) (drop a xs) (omega (arith, length-drop a xs))
-
--- a list whose beginning was lent is as long as before
-pub prefix_long : {A : Type 0} (xs y : List A) (n : ℕ) → length y ≡ length (take n xs) → n ≤ length xs → length (y ++ drop n xs) ≡ length xs
-prefix_long xs y n e b = length-append y (drop n xs) ∙ omega (arith, length-take-le n xs b, length-drop n xs)

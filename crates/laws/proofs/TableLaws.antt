@@ -7,7 +7,6 @@ use native.Mathlib.Nat.{add-zero, zero-add, add-suc, suc-add, le_of_suc-le-suc}
 use native.Mathlib.Omega.{arith}
 use native.Mathlib.Decide.{dec_lt, ℕ_discrete}
 use borrow.Author.Tests.{lt-ltb, le-ltb}
-use lib.Arith.{lt_of_le-ne}
 use lib.Dec.{ltb}
 use lib.ListN.{length, get_or, set, replicate, length-set, length-replicate}
 use lib.Seq.{ext_get_or, get_or-set_same, get_or-set_other}
@@ -86,10 +85,6 @@ up_to-same n m i a b e h = side (dec_lt i n)
 pub filled_at : (f : ℕ → ℕ) (n m i : ℕ) → i < m → i < n → get_or (table (λ j. up_to n j (f j)) 0 m) i 0 ≡ f i
 filled_at f n m i l h = table_at (λ j. up_to n j (f j)) m i l ∙ up_to-below n i (f i) h
 
--- a table that is filled whole
-pub filled-whole : (f : ℕ → ℕ) (m k : ℕ) → k ≡ m → table (λ j. up_to k j (f j)) 0 m ≡ table f 0 m
-filled-whole f m k e = table_same (λ j. up_to k j (f j)) f m (λ j l. up_to-below k j (f j) (omega arith))
-
 -- one more entry of a table that is filled up to k
 module _ (f : ℕ → ℕ) (m k : ℕ) (h : k < m) where
   old : List ℕ
@@ -118,12 +113,3 @@ module _ (f : ℕ → ℕ) (m k : ℕ) (h : k < m) where
       (λ i l.
       let b : i < m = subst (λ (x : ℕ). i < x) old_length l in
       entry i b (ℕ_discrete i k) ∙ sym (table_at (λ j. up_to (k + 1) j (f j)) m i b))
-
--- a list that is filled place by place
-pub filled_more : (g : ℕ → ℕ) (l : List ℕ) (k x : ℕ) → k < length l → x ≡ g k → ((j : ℕ) → j < k → get_or l j 0 ≡ g j) → (j : ℕ)
-    → j < k + 1 → get_or (set l k x) j 0 ≡ g j
-filled_more g l k x h e below j b = side (ℕ_discrete j k)
-  where
-    side : Dec (j ≡ k) → get_or (set l k x) j 0 ≡ g j
-    side (yes q) = rw q (get_or-set_same l k x 0 h ∙ e)
-    side (no q) = get_or-set_other l k j x 0 q ∙ below j (lt_of_le-ne (omega arith) q)

@@ -2,7 +2,7 @@ use Prim.Native.Nat.{◌/◌, ◌%◌}
 use Rattle.std.proofs.Common.{rules}
 use Rattle.sheet.specs.Counts.{most_codes, most_capacities}
 use Rattle.sheet.specs.Fields.{log_in}
-use Rattle.laws.proofs.MadeLaws.{made-table}
+use Rattle.laws.proofs.FromFnLaws.{made-table}
 use Rattle.sheets.proofs.flat.spread_logs.Goals as goal
 
 pub returns : goal.returns

@@ -2,7 +2,7 @@ use Prim.Native.Nat.{◌+◌, ◌*◌, ◌/◌, ◌%◌}
 use lib.ListN.{get_or}
 use Rattle.std.proofs.Common.{rules}
 use Rattle.sheet.specs.Counts.{most_codes, most_paired, most_logs}
-use Rattle.laws.proofs.MadeLaws.{made-table}
+use Rattle.laws.proofs.FromFnLaws.{made-table}
 use Rattle.sheets.specs.Flat.{logs_from}
 use Rattle.sheets.proofs.flat.take_logs.Goals as goal
 
