@@ -32,7 +32,7 @@ text-none = none_zeros room
 
 pushed_zeros : (n : ℕ) (l t : List ℕ) → paste (l ++ replicate (n - length l) 0) (length l) t (length t) ≡ (l ++ t) ++ replicate (n - length (l ++ t)) 0
 pushed_zeros n l t =
-    let z = replicate (n - length l) 0 in
+    let z : List ℕ = replicate (n - length l) 0 in
     ap₂ (λ (x y : List ℕ). (x ++ y) ++ drop (length l + length t) (l ++ z)) (take-append_seam l z) (take-length t)
     ∙ ap (λ (x : List ℕ). (l ++ t) ++ x)
     (drop-append-add l z (length t)
@@ -107,8 +107,3 @@ module _ (s : List ℕ) where
   pub listing_no : (read_number s ≡ 0 → ⊥) → refusal (read_number s) ≡ listing_of s
   unfolding listing_of
   listing_no z = sym (given_no (read_number s) (lines_to (sheet_of s) (sheet_of s).channels) (refusal (read_number s)) z)
-
--- a text is no longer than the bytes it stands in
-pub text-holds : (l : List ℕ) {r : Text} → r ≡ text_of l → r.len ≤ length r.bytes
-unfolding text_of
-text-holds l e = rw e (omega (arith, length-append l (replicate (room - length l) 0)))

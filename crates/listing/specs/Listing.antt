@@ -1,5 +1,5 @@
 -- What the sheet lister prints, byte by byte.
-use Rattle.std.specs.Prelude.{◌≡◌, cond, List, [], ◌∷◌, ◌++◌, ℕ, zero, suc, ◌+◌, ◌-◌, ◌*◌, ◌^◌, ltb, length, replicate}
+use Rattle.std.specs.Prelude.{◌≡◌, cond, List, [], ◌∷◌, ◌++◌, ℕ, zero, suc, ◌+◌, ◌-◌, ◌*◌, ◌^◌, ltb, length, replicate, codes}
 use Rattle.io.specs.Digits.{last_digits}
 use Rattle.counters.specs.Lines.{given}
 use Rattle.sheet.specs.Counts.{most_channels}
@@ -8,7 +8,6 @@ use Rattle.sheet.specs.Sizes.{frames_of, size_of, capacity_all}
 use Rattle.sheet.specs.Numbers.{read_answer}
 use Rattle.sheet.specs.declared.Sheet.{Sheet}
 use Rattle.matching.specs.Shares.{share_of}
-use Rattle.listing.specs.Ascii.{ascii}
 use Rattle.listing.specs.declared.Text.{Text}
 
 -- the bytes that a listing has room for: a first line of at most 87, and one of at most 113 for each channel
@@ -33,18 +32,18 @@ followed l (t ∷ ts) = followed (l ++ t) ts
 unfoldable pub head_line : Sheet → List ℕ
 head_line sh =
     followed []
-    (ascii "channels " ∷ decimal_of sh.channels ∷ ascii " slots " ∷ decimal_of sh.slots ∷ ascii " capacity " ∷ decimal_of (capacity_all sh) ∷ ascii "\n" ∷ [])
+    (codes "channels " ∷ decimal_of sh.channels ∷ codes " slots " ∷ decimal_of sh.slots ∷ codes " capacity " ∷ decimal_of (capacity_all sh) ∷ codes "\n" ∷ [])
 
 -- a text, and then the line of channel i, counted from 0: its number, F, E, N, V
 unfoldable pub with_line : Sheet → ℕ → List ℕ → List ℕ
 with_line sh i l =
     followed l
     (decimal_of (i + 1) ∷
-    ascii " F " ∷ decimal_of (frames_of sh i) ∷
-    ascii " E " ∷ decimal_of (encoded_of sh i) ∷
-    ascii " N " ∷ decimal_of (size_of sh i) ∷
-    ascii " V " ∷ decimal_of (share_of sh i) ∷
-    ascii "\n" ∷ [])
+    codes " F " ∷ decimal_of (frames_of sh i) ∷
+    codes " E " ∷ decimal_of (encoded_of sh i) ∷
+    codes " N " ∷ decimal_of (size_of sh i) ∷
+    codes " V " ∷ decimal_of (share_of sh i) ∷
+    codes "\n" ∷ [])
 
 -- the first line and those of the first i channels
 unfoldable pub lines_to : Sheet → ℕ → List ℕ
@@ -53,7 +52,7 @@ lines_to sh (suc i) = with_line sh i (lines_to sh i)
 
 -- refused N
 unfoldable pub refusal : ℕ → List ℕ
-refusal n = followed [] (ascii "refused " ∷ decimal_of n ∷ ascii "\n" ∷ [])
+refusal n = followed [] (codes "refused " ∷ decimal_of n ∷ codes "\n" ∷ [])
 
 -- the listing of a sheet's bytes
 unfoldable pub listing_of : List ℕ → List ℕ

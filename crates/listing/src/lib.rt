@@ -12,8 +12,9 @@ use sheet::sizes::frames;
 // A first line of at most 87 bytes, and one of at most 113 for each channel.
 pub const ROOM: usize = 87 + 113 * CHANNELS;
 
-// A text and its length, zeros past it. `list_sheet` promises both fields, so no collection of the library stands here; and it promises a text always,
-// which `fmt::Write` cannot, whose every call may answer an error.
+// A text and its length, zeros past it.
+// No collection of a library: `list_sheet`'s clause, and the theorem on it in crate demands, name both fields.
+// No `write!`: any call of `fmt::Write` may answer an error, and `list_sheet`'s clause has a text always.
 #[derive(Clone, Copy)]
 pub struct Text {
     pub bytes: [u8; ROOM],

@@ -40,7 +40,7 @@ fn part<const N: usize>(flat: &[u16], at: usize) -> [u16; N]
     out
 }
 
-// The logarithm of physical channel p of slot t.
+// The logarithm of physical channel p of slot t. With its test in `from_fn`'s closure, the search for what that answers ended at a limit.
 fn log_at(logs: &[u16; LOGS], t: usize, p: usize) -> u16
     requires { t < most_slots }
     ensures { result ≡ log_in logs.now t p }
