@@ -128,8 +128,9 @@ module _ {A : Type 0} {z : A} {K : ℕ} {ys old : List A} {c begin : ℕ} where
           }
 
 -- what is copied in a direction stands there once step 8 is done
-module _ {A : Type 0} {seen made : List A → List A} {reads writes : ℕ → ℕ → ℕ} (d : Directed seen made reads writes) (from : List A) where
-  abbrev laws : DirectionLaws seen made reads writes
+module _ {A : Type 0} {rows sent : List A → List A → List A} {seen made : List A → List A} {reads writes : ℕ → ℕ → ℕ}
+    (d : Directed rows sent seen made reads writes) (from : List A) where
+  abbrev laws : DirectionLaws rows sent seen made reads writes
   laws = direction_laws d
 
   module _ {z : A} {old : List A} {c begin k j : ℕ} (to : List A) (g : Going z (length from) (seen from) old c begin (made to) k j) where

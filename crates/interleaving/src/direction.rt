@@ -10,12 +10,17 @@ pub trait Direction {
 
     ghost none: { Self.Item };
 
+    // Of what is read and what is written: what stands in rows, and what is sent.
+    ghost rows: { List Self.Item → List Self.Item → List Self.Item };
+
+    ghost sent: { List Self.Item → List Self.Item → List Self.Item };
+
     // What is read and what is written, as they stand once step 8 is done.
     ghost seen: { List Self.Item → List Self.Item };
 
     ghost made: { List Self.Item → List Self.Item };
 
-    // Of a number on the rows' side and one on the other side: that of the side which is read, and that of the one which is written.
+    // Of a number for what stands in rows and one for what is sent: that for what is read, and that for what is written.
     ghost reads: { ℕ → ℕ → ℕ };
 
     ghost writes: { ℕ → ℕ → ℕ };
@@ -25,7 +30,7 @@ pub trait Direction {
         requires { (reads seat place < length from.now) × (writes seat place < length to.old) }
         ensures { to.new ≡ slice_set to.old (writes seat place) (slice_index_or from.now (reads seat place) none) };
 
-    ghost directed: { Directed seen made reads writes };
+    ghost directed: { Directed rows sent seen made reads writes };
 }
 
 // Bits are sent.
@@ -35,6 +40,10 @@ impl Direction for There {
     type Item = u8;
 
     ghost none = { 0 };
+
+    ghost rows = { λ from to. from };
+
+    ghost sent = { λ from to. to };
 
     ghost seen = { second_interleaved };
 
@@ -48,7 +57,7 @@ impl Direction for There {
         to[place] = from[seat];
     }
 
-    ghost directed = { inl (record { source = refl; target = refl; read = refl; write = refl }) };
+    ghost directed = { inl (record { row = refl; other = refl; source = refl; target = refl; read = refl; write = refl }) };
 }
 
 // Soft values come back.
@@ -58,6 +67,10 @@ impl Direction for Back {
     type Item = f32;
 
     ghost none = { nan };
+
+    ghost rows = { λ from to. to };
+
+    ghost sent = { λ from to. from };
 
     ghost seen = { λ xs. xs };
 
@@ -71,5 +84,5 @@ impl Direction for Back {
         to[seat] = from[place];
     }
 
-    ghost directed = { inr (record { source = refl; target = refl; read = refl; write = refl }) };
+    ghost directed = { inr (record { row = refl; other = refl; source = refl; target = refl; read = refl; write = refl }) };
 }

@@ -1,5 +1,7 @@
 -- Laws of a stretch as a line: copying along it is going along the stretch.
-use Rattle.std.proofs.Common.{◌≡◌, ℕ, zero, suc, ◌+◌, ◌-◌, ◌*◌, ◌<◌, ◌≤◌, List, length, sym, ap, ◌∙◌, suc-mul, arith}
+use Rattle.std.proofs.Common.{◌≡◌, ℕ, zero, suc, ◌+◌, ◌-◌, ◌*◌, ◌<◌, ◌≤◌, List, length, get_or, set, sym, refl, ap, ◌∙◌, ⊎_elim, suc-mul, arith}
+use Rattle.interleaving.specs.Second.{second_interleaved}
+use Rattle.interleaving.specs.Directions.{Directed}
 use Rattle.mapping.specs.declared.Mark.{Mark}
 use Rattle.mapping.specs.declared.Stretch.{Stretch}
 use Rattle.mapping.specs.Mapping.{pos_of}
@@ -88,3 +90,27 @@ module _ {A : Type 0} {caps : List ℕ} {d : A} {bits : List A} {m : Mark} {r : 
           stretch_take
           (over_part taken b o sized over
           ∙ ap (λ (x : List A). copied d (spot_on (line_along m r)) (bit_on (line_along m r)) w (r.end - m.x) x) (sym q))
+
+module _ {A : Type 0} {rows sent : List A → List A → List A} {seen made : List A → List A} {reads writes : ℕ → ℕ → ℕ} (b : Directed rows sent seen made reads writes)
+    {caps : List ℕ} {d : A} {m : Mark} {r : Stretch} (from u v : List A) where
+  -- a stretch that is copied through step 8, whichever way
+  pub crossed : {at n places : ℕ} {l : Line} {old : List A} → Along caps d (part_from at n (second_interleaved (rows from u))) m r m.x m.k (sent from u)
+      → Within n places (line_along m r) → l ≡ line_along m r → at + n ≤ length old → Over at n old (second_interleaved (rows from u))
+      → made v ≡ copied d (λ i. reads (index_on at l i) (spot_on l i)) (λ i. writes (index_on at l i) (spot_on l i)) (seen from) l.count (made u)
+      → Along caps d (part_from at n (second_interleaved (rows from v))) m r r.end (bit_on (line_along m r) (r.end - m.x)) (sent from v)
+      × Over at n old (second_interleaved (rows from v))
+  crossed {at} {n} =
+      ⊎_elim
+      (λ w. rw (w.row, w.other, w.source, w.target, w.read, w.write) (λ a g k y o e. (through_put a (second_interleaved from) at n refl g k e, o)))
+      (λ w. rw (w.row, w.other, w.source, w.target, w.read, w.write)
+      (λ a g k y o e. (through-take a (second_interleaved u) at n refl g k y o e, through_over a (second_interleaved u) at n refl g k y o e)))
+      b
+
+  -- and one bit of it without step 8
+  pub filled : {x k : ℕ} → Along caps d (rows from u) m r x k (sent from u) → x < r.end → (n : ℕ) → n ≡ m.base + (pos_of r.room (m.p + 1) x - 1)
+      → v ≡ set u (writes k n) (get_or from (reads k n) d) → Along caps d (rows from v) m r (x + 1) (k + r.stride) (sent from v)
+  filled =
+      ⊎_elim
+      (λ w. rw (w.row, w.other, w.read, w.write) (λ a h n z e. rw e (along_put a h n z)))
+      (λ w. rw (w.row, w.other, w.read, w.write) (λ a h n z e. rw e (along_take a h n z)))
+      b

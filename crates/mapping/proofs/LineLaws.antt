@@ -8,7 +8,7 @@ use lib.Seq.{set-append_left}
 use Rattle.laws.specs.Sums.{sum_to}
 use Rattle.laws.proofs.TestLaws.{split}
 use Rattle.sheet.specs.Counts.{most_bits}
-use Rattle.interleaving.specs.Second.{read_before, comes_from}
+use Rattle.interleaving.specs.Second.{second_interleaved, read_before, comes_from}
 use Rattle.interleaving.specs.Directions.{Directed}
 use Rattle.interleaving.specs.Turns.{Seated}
 use Rattle.interleaving.specs.declared.second.Seat.{Seat}
@@ -186,7 +186,7 @@ pub record Moving {A : Type 0} (seen made : List A → List A) (reads writes : �
   pub copying : Copying n places at l way t last d (λ i. reads (index_on at l i) (spot_on l i)) (λ i. writes (index_on at l i) (spot_on l i)) (seen from) j (made v) w (made u)
   pub long : (reads (length from) (length u) ≡ n) × (writes (length from) (length u) ≡ places)
 
-module _ {A : Type 0} {seen made : List A → List A} {reads writes : ℕ → ℕ → ℕ} (b : Directed seen made reads writes) {n places at : ℕ} {l : Line} {way t last : ℕ} {d : A} {from : List A} {j : ℕ} {v : List A} {w : Walk} {u : List A}
+module _ {A : Type 0} {rows sent : List A → List A → List A} {seen made : List A → List A} {reads writes : ℕ → ℕ → ℕ} (b : Directed rows sent seen made reads writes) {n places at : ℕ} {l : Line} {way t last : ℕ} {d : A} {from : List A} {j : ℕ} {v : List A} {w : Walk} {u : List A}
     (p : Moving seen made reads writes n places at l way t last d from j v w u) (h : w.k < last) where
   pub move_ready : Ready (reads (length from) (length u)) (writes (length from) (length u)) l w
   move_ready = rw (p.long.0, p.long.1) (copying_ready p.copying h)
@@ -424,3 +424,23 @@ module _ {t : Pair} (f : Fit t) where
 
       pub line-within : Within (length bits) (length w) l
       line-within = rw (o.count, o.room) g.within
+
+-- a line that is copied through step 8, whichever way
+module _ {A : Type 0} {rows sent : List A → List A → List A} {seen made : List A → List A} {reads writes : ℕ → ℕ → ℕ} (b : Directed rows sent seen made reads writes)
+    {t : Pair} (f : Fit t) {j : ℕ} {l : Line} (g : Traced t j l) {d : A} {at n places : ℕ} (from u v : List A) {old : List A} where
+  pub line_crossed : Stood t d (part_from at n (second_interleaved (rows from u))) (On t j) (sent from u) → Within n places l → at + n ≤ length old
+      → Over at n old (second_interleaved (rows from u))
+      → made v ≡ copied d (λ i. reads (index_on at l i) (spot_on l i)) (λ i. writes (index_on at l i) (spot_on l i)) (seen from) l.count (made u)
+      → Stood t d (part_from at n (second_interleaved (rows from v))) (On t (j + 1)) (sent from v) × Over at n old (second_interleaved (rows from v))
+  line_crossed =
+      ⊎_elim
+      (λ w. rw (w.row, w.other, w.source, w.target, w.read, w.write)
+      (λ o i y r e. (line_put f _ _ g o (e ∙ copied-part d (bit_on l) (spot_on l) at n (second_interleaved from) u l.count i.given), r)))
+      (λ w. rw (w.row, w.other, w.source, w.target, w.read, w.write)
+      (λ o i y r e.
+      let S = second_interleaved u in
+      let taken = copied d (spot_on l) (bit_on l) from l.count (part_from at n S) in
+      let many : length taken ≡ n = copied-length d (spot_on l) (bit_on l) from (part_from at n S) l.count ∙ part_length S at n r.fits in
+      let q = e ∙ copied_over d (spot_on l) (bit_on l) at n from S l.count r.fits i.given in
+      (line-take f _ _ g o (over_part taken y r many q), over_more taken y r many q)))
+      b

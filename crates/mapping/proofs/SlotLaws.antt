@@ -5,6 +5,7 @@ use lib.ListN.{get_or-eq_default}
 use Rattle.laws.specs.Sums.{sum_to}
 use Rattle.mapping.specs.declared.pairs.Pair.{Pair}
 use Rattle.mapping.specs.Mapping.{place, number_of, in_runs, at, slot_size, slot_of, slot_undone}
+use Rattle.mapping.specs.Settled.{Settled}
 use Rattle.mapping.specs.Pairs.{caps_in, runs_in, lines, PairOf}
 use Rattle.mapping.proofs.TurnLaws.{place_gets, place_of-number}
 use Rattle.mapping.proofs.MappedLaws.{Stands, mapped_only, unmapped_only}
@@ -54,11 +55,13 @@ module _ {caps : List ℕ} {b c : ℕ} {t : Pair} (g : PairOf caps b c t) (few :
         rw (place_of-number U B 2 run p x h' l') at (o.stands k i (omega (arith, line-few g.fit k))) in
         rw (fun_ext same, g.run, g.other, fewer-number (at caps) (in_runs b c) (length caps) p x few none h) at s
 
-    some : (q : ℕ) → q < length caps → 0 < in_runs b c q
-    some q h = rw (← g.run, ← g.other) (pair_runs g.fit q (omega arith))
+    pub pair_settled : Settled (in_runs b c) caps d bits w
+    pair_settled = record { count = rw slot-total o.count; room = rw slot-total o.room; stands = stands }
 
-    pub pair_slot : (v : List A) → length v ≡ slot_size caps → w ≡ slot_of (in_runs b c) caps bits v
-    pair_slot v m = mapped_only (at caps) (in_runs b c) (length caps) some d bits v (rw slot-total o.count) m w (rw slot-total o.room) stands
+-- what is settled is the slot of its bits, and these are its undoing
+module _ {A : Type 0} {B : ℕ → ℕ} {caps : List ℕ} {d : A} {bits w : List A} (s : Settled B caps d bits w) (some : (q : ℕ) → q < length caps → 0 < B q) where
+  pub settled_slot : (v : List A) → length v ≡ slot_size caps → w ≡ slot_of B caps bits v
+  settled_slot v m = mapped_only (at caps) B (length caps) some d bits v s.count m w s.room s.stands
 
-    pub pair_bits : bits ≡ slot_undone (in_runs b c) caps d w
-    pair_bits = unmapped_only (at caps) (in_runs b c) (length caps) some d bits w (rw slot-total o.count) (rw slot-total o.room) stands
+  pub settled_bits : bits ≡ slot_undone B caps d w
+  settled_bits = unmapped_only (at caps) B (length caps) some d bits w s.count s.room s.stands

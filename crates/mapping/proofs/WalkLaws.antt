@@ -4,10 +4,11 @@ use Rattle.laws.specs.Sums.{sum_to}
 use Rattle.laws.proofs.SumLaws.{sum_more, sum-within}
 use Rattle.mapping.specs.declared.Mark.{Mark}
 use Rattle.mapping.specs.declared.Stretch.{Stretch}
-use Rattle.mapping.specs.Mapping.{pos_of, place, ones, at, slot_size, slot_of, slot_undone, Slot}
+use Rattle.mapping.specs.Mapping.{pos_of, place, ones, at, slot_size, Slot}
+use Rattle.mapping.specs.Settled.{Settled}
 use Rattle.mapping.specs.Strides.{walk, Steps, Least, Marked, Leg, Onward, Done, Standing, Along}
 use Rattle.mapping.proofs.StrideLaws.{walk-fits, walk_start, walk-next, walk-number, walk_inside}
-use Rattle.mapping.proofs.DoneLaws.{done-start, done_put, done-take, done-slot, done-bits}
+use Rattle.mapping.proofs.DoneLaws.{done-start, done_put, done-take, done-all}
 
 pub walk_starts : (caps : List ℕ) (low : ℕ) → slot_size caps + length caps < 18446744073709551616 → Least caps (length caps) low
     → Marked caps (record { low = low; p = 0; base = 0; first = 0; x = 0; k = 0 })
@@ -143,8 +144,9 @@ module _ {A : Type 0} {caps : List ℕ} {d : A} {bits : List A} {m : Mark} {w : 
     all : sum_to (at caps) (length caps) ≤ m.base + m.x
     all = let e : m.p ≡ length caps = omega (arith, s.mark.inside) in omega (arith, s.mark.begins, ap (sum_to (at caps)) e)
 
-    pub standing_slot : (v : List A) → length v ≡ slot_size caps → w ≡ slot_of ones caps bits v
-    standing_slot v l = done-slot (at caps) (length caps) d bits w (m.base + m.x) all s.done v l
-
-    pub standing_bits : bits ≡ slot_undone ones caps d w
-    standing_bits = done-bits (at caps) (length caps) d bits w (m.base + m.x) all s.done
+    pub standing_settled : Settled ones caps d bits w
+    standing_settled = record {
+      count = s.done.count;
+      room = s.done.room;
+      stands = done-all (at caps) (length caps) d bits w (m.base + m.x) all s.done;
+    }

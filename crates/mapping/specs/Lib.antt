@@ -4,3 +4,4 @@ pub mod Runs
 pub mod Lines
 pub mod Pairs
 pub mod Rounds
+pub mod Settled

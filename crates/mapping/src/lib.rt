@@ -9,6 +9,7 @@ ghost use Rattle.mapping.specs.Mapping.{pos_of, number_of, filled_as, ones, firs
 ghost use Rattle.mapping.specs.Runs.{had_in, Short, Coded};
 ghost use Rattle.mapping.specs.Strides.{turns, walk, Reached, Least, Marked, Leg, Onward};
 ghost use Rattle.mapping.specs.Lines.{line_along, Lent, part_from};
+ghost use Rattle.mapping.specs.Settled.{Crossed};
 ghost use Rattle.interleaving.specs.Second.{second_interleaved};
 ghost use Rattle.sheet.specs.Counts.{most_bits};
 ghost use borrow.Rule.Slice.PartMut.{put_mid};
@@ -18,7 +19,7 @@ mod pairs;
 mod rounds;
 mod short;
 
-use interleaving::direction::{Back, There};
+use interleaving::direction::{Back, Direction, There};
 use interleaving::second::Turns;
 use lines::{Line, along};
 use rounds::{is_threefold, map_threefold};
@@ -237,30 +238,22 @@ impl Mark {
     }
 }
 
-// Maps the bits of a slot, one at a time to each PhCH that has room.
-fn map_ones(bits: &[u8], turns: &Turns, at: usize, caps: &[u16], frame: &mut [u8])
-    requires { Slot caps.now (length frame.old) (length frame.old) × (length caps.now ≤ 16) × Lent (length bits.now) at (length frame.old) turns.now }
-    ensures { frame.new ≡ slot_of ones caps.now (part_from at (length frame.old) (second_interleaved bits.now)) frame.old }
+// Copies the bits of a slot, one at a time to each PhCH that has room, or back.
+fn in_turn<D: Direction>(
+    from: &[D::Item],
+    turns: &Turns,
+    at: usize,
+    caps: &[u16],
+    to: &mut [D::Item],
+)
+    requires { Slot caps.now (length (D.sent from.now to.old)) (length (D.sent from.now to.old)) × (length caps.now ≤ 16) × Lent (length (D.rows from.now to.old)) at (length (D.sent from.now to.old)) turns.now }
+    ensures { Crossed ones caps.now D.none at (length (D.sent from.now to.old)) (D.rows from.now to.old) (D.rows from.now to.new) (D.sent from.now to.new) }
 {
     let mut m = Mark::start(caps);
     while m.p < caps.len() {
         let r = m.stretch(caps);
         let l = m.line(r);
-        along::<There>(bits, turns, at, l, frame);
-        m = m.onward(caps, r, m.k + l.count * r.stride);
-    }
-}
-
-// Takes the soft values of such a slot back to where its bits came from.
-fn unmap_ones(frame: &[f32], turns: &Turns, at: usize, caps: &[u16], values: &mut [f32])
-    requires { Slot caps.now (length frame.now) (length frame.now) × (length caps.now ≤ 16) × Lent (length values.old) at (length frame.now) turns.now }
-    ensures { second_interleaved values.new ≡ put_mid at (length frame.now) (second_interleaved values.old) (slot_undone ones caps.now nan frame.now) }
-{
-    let mut m = Mark::start(caps);
-    while m.p < caps.len() {
-        let r = m.stretch(caps);
-        let l = m.line(r);
-        along::<Back>(frame, turns, at, l, values);
+        along::<D>(from, turns, at, l, to);
         m = m.onward(caps, r, m.k + l.count * r.stride);
     }
 }
@@ -282,14 +275,14 @@ pub fn map_slot(bits: &[u8], at: usize, caps: &[u16], runs: Runs, frame: &mut [u
     }
     let turns = Turns::of(bits.len());
     if runs.first + runs.other != 2 {
-        pairs::map_pair(bits, &turns, at, caps, runs, frame);
+        pairs::by_runs::<There>(bits, &turns, at, caps, runs, frame);
         return;
     }
     if frame.len() <= SHORT && bits.len() < FEW * caps.len() {
         short::map_short(bits, &turns, at, caps, frame);
         return;
     }
-    map_ones(bits, &turns, at, caps, frame);
+    in_turn::<There>(bits, &turns, at, caps, frame);
 }
 
 // Takes the soft values of a slot back to where its bits came from; the other values stay as they are.
@@ -303,14 +296,14 @@ pub fn unmap_slot(frame: &[f32], caps: &[u16], runs: Runs, at: usize, values: &m
     }
     let turns = Turns::of(values.len());
     if runs.first + runs.other != 2 {
-        pairs::unmap_pair(frame, &turns, at, caps, runs, values);
+        pairs::by_runs::<Back>(frame, &turns, at, caps, runs, values);
         return;
     }
     if frame.len() <= SHORT && values.len() < FEW * caps.len() {
         short::unmap_short(frame, &turns, at, caps, values);
         return;
     }
-    unmap_ones(frame, &turns, at, caps, values);
+    in_turn::<Back>(frame, &turns, at, caps, values);
 }
 
 // Which of a PhCH's u bits, counted from 0, stands at its place, counted from 1: the undoing of `spot`.

@@ -97,7 +97,7 @@ fn one<D: Direction>(from: &[D::Item], l: Line, way: usize, w: Walk, to: &mut [D
 
 // Copies the elements of a line between their seats, of which the turns are known, and their places in the slot.
 pub fn along<D: Direction>(from: &[D::Item], turns: &Turns, at: usize, l: Line, to: &mut [D::Item])
-    requires { Within (D.writes (length from.now) (length to.old)) (D.writes (length from.now) (length to.old)) l × Lent (D.reads (length from.now) (length to.old)) at (D.writes (length from.now) (length to.old)) turns.now }
+    requires { Within (length (D.sent from.now to.old)) (length (D.sent from.now to.old)) l × Lent (length (D.rows from.now to.old)) at (length (D.sent from.now to.old)) turns.now }
     ensures { D.made to.new ≡ copied D.none (λ i. D.reads (index_on at l i) (spot_on l i)) (λ i. D.writes (index_on at l i) (spot_on l i)) (D.seen from.now) l.count (D.made to.old) }
 {
     let way = l.way();

@@ -2,17 +2,15 @@
 // of a round, along all the rounds that give both PhCHs a whole run; then three for what is left: PhCH 1's part of its run, all the rest of
 // PhCH 2, and all the rest of PhCH 1.
 ghost use Rattle.std.specs.Prelude.{◌≡◌, ◌+◌, ◌<◌, ◌≤◌, length};
-ghost use Rattle.std.specs.Float.{nan};
-ghost use Rattle.mapping.specs.Mapping.{in_runs, at, slot_of, slot_undone};
+ghost use Rattle.mapping.specs.Mapping.{in_runs, at};
 ghost use Rattle.mapping.specs.Runs.{Short, Paired};
 ghost use Rattle.mapping.specs.Pairs.{lines, Rounds, Fit, PairOf, Traced};
-ghost use Rattle.mapping.specs.Lines.{Lent, part_from};
-ghost use Rattle.interleaving.specs.Second.{second_interleaved};
-ghost use borrow.Rule.Slice.PartMut.{put_mid};
+ghost use Rattle.mapping.specs.Lines.{Lent};
+ghost use Rattle.mapping.specs.Settled.{Crossed};
 
 use crate::lines::{Line, along};
 use crate::{Runs, capacity, whole_runs};
-use interleaving::direction::{Back, There};
+use interleaving::direction::Direction;
 use interleaving::second::Turns;
 
 // PhCH 1 takes u bits in runs of b, and PhCH 2 takes v in runs of c. As many `rounds` give each a whole run; in the round after them PhCH 1 takes
@@ -151,33 +149,21 @@ impl Pair {
     }
 }
 
-// Maps the bits of such a slot.
-pub fn map_pair(bits: &[u8], turns: &Turns, at: usize, caps: &[u16], runs: Runs, frame: &mut [u8])
-    requires { Paired caps.now runs.first runs.other (length frame.old) (length frame.old) × Lent (length bits.now) at (length frame.old) turns.now }
-    ensures { frame.new ≡ slot_of (in_runs runs.first runs.other) caps.now (part_from at (length frame.old) (second_interleaved bits.now)) frame.old }
-{
-    let t = Pair::of(caps, runs);
-    let n = runs.first + runs.other + 3;
-    for j in 0..n {
-        along::<There>(bits, turns, at, t.line(j), frame);
-    }
-}
-
-// Takes the soft values of such a slot back to where its bits came from.
-pub fn unmap_pair(
-    frame: &[f32],
+// Copies the bits of such a slot to their places, or back.
+pub fn by_runs<D: Direction>(
+    from: &[D::Item],
     turns: &Turns,
     at: usize,
     caps: &[u16],
     runs: Runs,
-    values: &mut [f32],
+    to: &mut [D::Item],
 )
-    requires { Paired caps.now runs.first runs.other (length frame.now) (length frame.now) × Lent (length values.old) at (length frame.now) turns.now }
-    ensures { second_interleaved values.new ≡ put_mid at (length frame.now) (second_interleaved values.old) (slot_undone (in_runs runs.first runs.other) caps.now nan frame.now) }
+    requires { Paired caps.now runs.first runs.other (length (D.sent from.now to.old)) (length (D.sent from.now to.old)) × Lent (length (D.rows from.now to.old)) at (length (D.sent from.now to.old)) turns.now }
+    ensures { Crossed (in_runs runs.first runs.other) caps.now D.none at (length (D.sent from.now to.old)) (D.rows from.now to.old) (D.rows from.now to.new) (D.sent from.now to.new) }
 {
     let t = Pair::of(caps, runs);
     let n = runs.first + runs.other + 3;
     for j in 0..n {
-        along::<Back>(frame, turns, at, t.line(j), values);
+        along::<D>(from, turns, at, t.line(j), to);
     }
 }

@@ -1,16 +1,17 @@
 // Steps 8 and 9 of a slot in which step 8 has next to no indices a turn: a line of such a slot would go from turn to turn for a bit in each. The
 // slot's bits are laid out in a small room between the two steps.
-ghost use Rattle.std.specs.Prelude.{◌≡◌, ◌≤◌, length};
+ghost use Rattle.std.specs.Prelude.{◌≡◌, ◌≤◌, ◌<◌, length};
 ghost use Rattle.std.specs.Float.{nan};
 ghost use borrow.Rule.Slice.PartMut.{put_mid};
 ghost use Rattle.interleaving.specs.Second.{second_interleaved};
-ghost use Rattle.mapping.specs.Mapping.{ones, slot_of, slot_undone, Slot};
+ghost use Rattle.mapping.specs.Mapping.{ones, slot_of, slot_undone, slot_size, Slot};
 ghost use Rattle.mapping.specs.Strides.{Along};
 ghost use Rattle.mapping.specs.Lines.{whole_line, short_slot, Lent, part_from};
+ghost use Rattle.mapping.specs.Settled.{Settled};
 
 use crate::lines::{Line, along};
 use crate::{Mark, Stretch, spot};
-use interleaving::direction::{Back, There};
+use interleaving::direction::{Back, Direction, There};
 use interleaving::second::Turns;
 
 // As many places as the room has.
@@ -35,54 +36,34 @@ fn whole_line(n: usize) -> Line
     }
 }
 
-// Fills a stretch, and answers the number of the bit after it.
-fn fill(bits: &[u8], caps: &[u16], m: Mark, r: Stretch, frame: &mut [u8]) -> usize
-    requires { Along caps.now 0 bits.now m r m.x m.k frame.old }
-    ensures { Along caps.now 0 bits.now m r r.end result frame.new }
+// Copies the bits of a stretch to their places, or back, and answers the number of the bit after it.
+fn fill<D: Direction>(
+    from: &[D::Item],
+    caps: &[u16],
+    m: Mark,
+    r: Stretch,
+    to: &mut [D::Item],
+) -> usize
+    requires { Along caps.now D.none (D.rows from.now to.old) m r m.x m.k (D.sent from.now to.old) }
+    ensures { Along caps.now D.none (D.rows from.now to.new) m r r.end result (D.sent from.now to.new) }
 {
     let mut k = m.k;
     for x in m.x..r.end {
-        frame[spot(m.base, m.p, r.room, x)] = bits[k];
+        D::one(from, k, spot(m.base, m.p, r.room, x), to);
         k += r.stride;
     }
     k
 }
 
-// Empties a stretch: the same, with the bits written.
-fn empty(frame: &[f32], caps: &[u16], m: Mark, r: Stretch, bits: &mut [f32]) -> usize
-    requires { Along caps.now nan bits.old m r m.x m.k frame.now }
-    ensures { Along caps.now nan bits.new m r r.end result frame.now }
-{
-    let mut k = m.k;
-    for x in m.x..r.end {
-        bits[k] = frame[spot(m.base, m.p, r.room, x)];
-        k += r.stride;
-    }
-    k
-}
-
-// Step 9 alone.
-fn map_laid(bits: &[u8], caps: &[u16], frame: &mut [u8])
-    requires { Slot caps.now (length bits.now) (length frame.old) × (length caps.now ≤ 16) }
-    ensures { frame.new ≡ slot_of ones caps.now bits.now frame.old }
+// Step 9 alone, or undone.
+fn laid<D: Direction>(from: &[D::Item], caps: &[u16], to: &mut [D::Item])
+    requires { Slot caps.now (length (D.rows from.now to.old)) (length (D.sent from.now to.old)) × (length caps.now ≤ 16) × (slot_size caps.now < 4294967296) }
+    ensures { Settled ones caps.now D.none (D.rows from.now to.new) (D.sent from.now to.new) }
 {
     let mut m = Mark::start(caps);
     while m.p < caps.len() {
         let r = m.stretch(caps);
-        let k = fill(bits, caps, m, r, frame);
-        m = m.onward(caps, r, k);
-    }
-}
-
-// Step 9 alone undone.
-fn unmap_laid(frame: &[f32], caps: &[u16], bits: &mut [f32])
-    requires { Slot caps.now (length bits.old) (length frame.now) × (length caps.now ≤ 16) }
-    ensures { bits.new ≡ slot_undone ones caps.now nan frame.now }
-{
-    let mut m = Mark::start(caps);
-    while m.p < caps.len() {
-        let r = m.stretch(caps);
-        let k = empty(frame, caps, m, r, bits);
+        let k = fill::<D>(from, caps, m, r, to);
         m = m.onward(caps, r, k);
     }
 }
@@ -101,7 +82,7 @@ fn map_between(
 {
     let n = frame.len();
     along::<There>(bits, turns, at, whole_line(n), &mut room[..n]);
-    map_laid(&room[..n], caps, frame);
+    laid::<There>(&room[..n], caps, frame);
 }
 
 // Both undone.
@@ -117,7 +98,7 @@ fn unmap_between(
     ensures { second_interleaved values.new ≡ put_mid at (length frame.now) (second_interleaved values.old) (slot_undone ones caps.now nan frame.now) }
 {
     let n = frame.len();
-    unmap_laid(frame, caps, &mut room[..n]);
+    laid::<Back>(frame, caps, &mut room[..n]);
     along::<Back>(&room[..n], turns, at, whole_line(n), values);
 }
 

@@ -1,5 +1,6 @@
 use Rattle.std.proofs.Common.{◌≡◌, ℕ, length, sym, ap, ◌∙◌, arith}
 use Rattle.laws.specs.Sums.{sum_to}
+use Rattle.interleaving.proofs.DirectionLaws.{direction_laws}
 use Rattle.mapping.specs.Lines.{index_on, spot_on, copied}
 use Rattle.mapping.proofs.LineLaws.{walked-inside, walked_ends, copied_none, within_span, turn_starts, copying_starts, move_ready, move_more}
 use Rattle.mapping.proofs.lines.along.Goals as goal
@@ -41,9 +42,10 @@ loop-w-2-init g c =
     let t =
     turn_starts {last = c.min-last.result} p.0 (omega (arith, p.1.inside, p.1.all), c.args.turns.now.few) c.way-way.ensures e (omega (arith, c.min-last.ensures, c.begin-w.ensures.2)) in
     let m : length o.to ≡ length c.args.to.now = o.auto.to in
+    let z = (direction_laws g.met.D.Direction.directed).sizes c.args.from.now c.args.to.now in
     record {
       copying = copying_starts (d.made o.to) t o.invariant.0 e;
-      long = (ap (d.reads (length c.args.from.now)) m ∙ sym p.1.all, ap (d.writes (length c.args.from.now)) m);
+      long = (ap (λ (k : ℕ). d.reads (length c.args.from.now) k) m ∙ z.0 ∙ sym p.1.all, ap (λ (k : ℕ). d.writes (length c.args.from.now) k) m ∙ z.1);
     }
 
 pub one-w-requires : goal.one-w-requires

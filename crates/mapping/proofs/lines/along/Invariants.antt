@@ -7,7 +7,7 @@ use Rattle.mapping.proofs.lines.along.Given as goal
 abbrev pub invariant-loop-w-2 : goal.invariant-loop-w-2
 invariant-loop-w-2 g l =
     let d = g.D.Direction in
-    Moving d.seen d.made d.reads d.writes l.turns.n (d.writes (length l.from) (length l.fn.to)) l.at l.l l.way l.t l.last d.none l.from l.initial.w.i l.initial.to l.w l.to
+    Moving d.seen d.made d.reads d.writes l.turns.n (length (d.sent l.from l.fn.to)) l.at l.l l.way l.t l.last d.none l.from l.initial.w.i l.initial.to l.w l.to
 
 abbrev pub decreases-loop-w-2 : goal.decreases-loop-w-2
 decreases-loop-w-2 g l = l.last - l.w.k

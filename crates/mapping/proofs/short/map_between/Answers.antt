@@ -5,6 +5,7 @@ use Rattle.mapping.specs.declared.lines.Line.{Line}
 use Rattle.mapping.specs.Mapping.{ones, slot_of}
 use Rattle.mapping.specs.Lines.{spot_on, index_on, copied}
 use Rattle.mapping.proofs.LineLaws.{whole-within, whole_put}
+use Rattle.mapping.proofs.SlotLaws.{settled_slot}
 use Rattle.mapping.proofs.short.map_between.Goals.{After-along}
 use Rattle.mapping.proofs.short.map_between.Goals as goal
 
@@ -27,18 +28,18 @@ along-requires c =
     let e = length-take-le (length c.args.frame.now) c.args.room.now c.requires.2 in
     rw (e, c.whole_line.ensures) (whole-within _ (omega (arith, c.requires.3.inside, c.requires.3.all, c.args.turns.now.few)), c.requires.3)
 
-pub slice_bounds-map_laid-end-2 : goal.slice_bounds-map_laid-end-2
-slice_bounds-map_laid-end-2 c = sym (ap (λ (l : List ℕ). length l) (front (goal.at.slice_bounds-map_laid-end-2 c).After-along) ∙ full (goal.at.slice_bounds-map_laid-end-2 c).After-along)
+pub slice_bounds-laid-end-2 : goal.slice_bounds-laid-end-2
+slice_bounds-laid-end-2 c = sym (ap (λ (l : List ℕ). length l) (front (goal.at.slice_bounds-laid-end-2 c).After-along) ∙ full (goal.at.slice_bounds-laid-end-2 c).After-along)
 
-pub map_laid-requires : goal.map_laid-requires
-map_laid-requires c = (record { bits = ap (λ (l : List ℕ). length l) (front (goal.at.map_laid-requires c).After-along) ∙ full (goal.at.map_laid-requires c).After-along ∙ c.requires.0.bits; room = c.requires.0.room }, c.requires.1)
+pub laid-requires : goal.laid-requires
+laid-requires c = (record { bits = ap (λ (l : List ℕ). length l) (front (goal.at.laid-requires c).After-along) ∙ full (goal.at.laid-requires c).After-along ∙ c.requires.0.bits; room = c.requires.0.room }, c.requires.1, omega (arith, c.requires.0.room, c.requires.3.inside, c.requires.3.all, c.args.turns.now.few))
 
 pub returns : goal.returns
 returns c =
     let a = c.args in
     let S = second_interleaved a.bits.now in
     let n = length a.frame.now in
-    c.map_laid.ensures
+    settled_slot c.laid.ensures (λ q h. omega arith) a.frame.now c.requires.0.room
     ∙ ap (λ (l : List ℕ). slot_of ones a.caps.now l a.frame.now)
     (front (goal.at.returns c).After-along
     ∙ c.along.ensures
