@@ -2,7 +2,7 @@
 use Prim.Native.Nat.{ℕ, zero, suc, ◌+◌, ◌*◌, ◌-◌, ◌/◌, ◌%◌, ◌<◌, ◌≤◌}
 use mathlib.Core.Path.{◌≡◌, refl, sym, ◌∙◌, ap}
 use mathlib.Core.Bool.{Bool, true, false, not, cond, ◌&&◌}
-use native.Mathlib.Nat.{mul-zero, zero-mul, mul_comm, mul_assoc, mul-add, add-mul, mul-add-div_right, zero-div, div-eq_of_lt, add-div_right, mod-lt, div-add-mod', mul-le-mul_left, div-le_of_le-mul, div-eq_of_lt-le, le_refl, le_trans, lt_of_not-le, mul-sub, one-mul, le-mul_of_pos_right, le-div_iff_mul-le, mul-le-mul}
+use native.Mathlib.Nat.{mul-zero, zero-mul, mul_comm, mul_assoc, mul-add, add-mul, mul-add-div_right, zero-div, div-eq_of_lt, add-div_right, mod-lt, div-add-mod', mul-le-mul_left, div-eq_of_lt-le, le_refl, le_trans, lt_of_not-le, mul-sub, one-mul, le-mul_of_pos_right, le-div_iff_mul-le, mul-le-mul}
 use native.Mathlib.Omega.{arith}
 use borrow.Author.Tests.{ltb-true, ltb-false, lt-ltb, le-leb, lt-leb, ne_eqb}
 use lib.Dec.{ltb, leb, eqb}
@@ -132,9 +132,6 @@ r_neg (suc a) N h =
     rw e (omega arith)
 
 -- bounds
-pub part-le : (a F x : ℕ) → 0 < F → x * added_of a F / F ≤ x
-part-le a F x h = div-le_of_le-mul F (rw (mul_comm F x) (mul-le-mul_left x (added_le a F h)))
-
 pub q_down_pos : (N R : ℕ) → R < N → 0 < N / (N - R)
 q_down_pos N R h =
     let p : 0 < N - R = omega arith in
@@ -143,6 +140,3 @@ q_down_pos N R h =
 -- x|q| for x below the most frames
 pub whole_le : (x k : ℕ) → x < most_frames → k ≤ 16384 → x * k ≤ (most_frames - 1) * 16384
 whole_le x k h i = mul-le-mul {n₁ = x} {m₁ = k} {n₂ = most_frames - 1} {m₂ = 16384} (omega arith) i
-
-pub part-fits : (a F x : ℕ) → 0 < F → F ≤ most_frames → x < most_frames → x * added_of a F ≤ (most_frames - 1) * most_frames
-part-fits a F x h i j = mul-le-mul {n₁ = x} {n₂ = most_frames - 1} {m₂ = most_frames} (omega arith) (le_trans (added_le a F h) i)

@@ -1,5 +1,5 @@
 use mathlib.Core.Path.{◌≡◌}
-use Prim.Native.Nat.{ℕ, ◌*◌, ◌-◌, ◌≤◌}
+use Prim.Native.Nat.{ℕ, ◌*◌, ◌≤◌}
 use lib.ListN.{get_or}
 use Rattle.sheet.specs.Counts.{most_frames}
 use Rattle.matching.specs.Signed.{signed_by}
@@ -7,7 +7,4 @@ use Rattle.offset.specs.Offset.{filled}
 use Rattle.offset.proofs.offsets.Given as goal
 
 abbrev pub invariant-loop-x : goal.invariant-loop-x
-invariant-loop-x l = (l.s ≡ filled (signed_by l.q.below l.q.size) l.f l.x) × (l.x ≤ l.f) × ((i : ℕ) → get_or l.s i 0 ≤ most_frames * 16384)
-
-abbrev pub decreases-loop-x : goal.decreases-loop-x
-decreases-loop-x l = l.f - l.x
+invariant-loop-x l = (l.s ≡ filled (signed_by l.q.less l.q.size) l.f l.x) × ((i : ℕ) → get_or l.s i 0 ≤ most_frames * 16384)
