@@ -3,7 +3,6 @@
 
 ghost use Rattle.std.specs.Prelude.{◌≡◌, ◌<◌};
 ghost use Rattle.counters.specs.Refusals.{index_of};
-ghost use Rattle.opening.specs.Opened.{Opens};
 ghost use Rattle.asking.specs.Asking.{sizes_given, sizes_in, no_sizes, sizes_left, sizes_answer, channel_given, channel_in, channel_left, channel_answer};
 
 pub mod name;
@@ -52,7 +51,6 @@ pub struct Channel {
 }
 
 fn sizes_of(opened: &Opened) -> Sizes
-    requires { Opens opened.now }
     ensures { sizes_given result ≡ sizes_in opened.now.fields }
 {
     let fields = &opened.fields;
@@ -74,7 +72,7 @@ pub fn sizes(bytes: &[u8]) -> Result<Sizes, Refusal>
 }
 
 fn channel_of(opened: &Opened, i: usize) -> Channel
-    requires { Opens opened.now × (i < opened.now.fields.channels) }
+    requires { i < opened.now.fields.channels }
     ensures { channel_given result ≡ channel_in opened.now.fields i }
 {
     let fields = &opened.fields;

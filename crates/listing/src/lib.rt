@@ -2,7 +2,6 @@
 #![tactic(auto)]
 
 ghost use Rattle.std.specs.Prelude.{◌≡◌, List, [], ◌++◌, ℕ, ◌+◌, ◌≤◌, ◌<◌, length};
-ghost use Rattle.opening.specs.Opened.{Opens};
 ghost use Rattle.listing.specs.Listing.{room, decimal_of, head_line, with_line, lines_to, refusal, listing_of, text_of, Pushed};
 
 use opening::{Opened, open_sheet};
@@ -60,7 +59,6 @@ impl Text {
 }
 
 fn head_line(opened: &Opened) -> Text
-    requires { Opens opened.now }
     ensures { (result ≡ text_of (head_line opened.now.fields)) × (result.len ≤ 87) }
 {
     let fields = &opened.fields;
@@ -73,7 +71,7 @@ fn head_line(opened: &Opened) -> Text
 }
 
 fn channel_line(text: &mut Text, opened: &Opened, i: usize)
-    requires { (text.old.len + 113 ≤ room) × Opens opened.now × (i < opened.now.fields.channels) }
+    requires { (text.old.len + 113 ≤ room) × (i < opened.now.fields.channels) }
     ensures { ((l : List ℕ) → text.old ≡ text_of l → text.new ≡ text_of (with_line opened.now.fields i l)) × (text.new.len ≤ text.old.len + 113) }
 {
     let fields = &opened.fields;
@@ -86,7 +84,6 @@ fn channel_line(text: &mut Text, opened: &Opened, i: usize)
 }
 
 fn list(opened: &Opened) -> Text
-    requires { Opens opened.now }
     ensures { (result ≡ text_of (lines_to opened.now.fields opened.now.fields.channels)) × (result.len ≤ room) }
 {
     let mut text = head_line(opened);

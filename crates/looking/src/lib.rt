@@ -7,7 +7,6 @@ ghost use Rattle.counters.specs.Refusals.{Refuses};
 ghost use Rattle.sheet.specs.Fields.{sheet_of};
 ghost use Rattle.joining.specs.Range.{in_range};
 ghost use Rattle.frame.specs.Bit.{is_bit};
-ghost use Rattle.opening.specs.Opened.{opened_of, Opens};
 ghost use Rattle.looking.specs.Looking.{frame_lines, no_trch, not_long, Looks, Pointed};
 
 use counters::refusal::Refusal;
@@ -22,8 +21,7 @@ pub const LAST_FRAME: u32 = 255;
 // The sheet's own numbers, then 9.
 pub fn open_frame(bytes: &[u8], frame: FrameNumber) -> Result<Opened, Refusal>
     ensures number { Refuses (frame_lines bytes.now frame.0) result }
-    ensures opened { IfOk result (λ o. o ≡ opened_of (sheet_of bytes.now)) }
-    ensures opens { IfOk result (λ o. Opens o) }
+    ensures opened { IfOk result (λ o. o.fields ≡ sheet_of bytes.now) }
 {
     let opened = open_sheet(bytes)?;
     if frame.is_over(LAST_FRAME) {

@@ -3,7 +3,6 @@ ghost use Rattle.std.specs.Prelude.{◌≡◌, ◌-◌, ◌<◌, [], ◌∷◌, 
 ghost use Rattle.counters.specs.Lines.{line};
 ghost use Rattle.counters.specs.Refusals.{Refuses};
 ghost use Rattle.sheet.specs.Sizes.{size_of};
-ghost use Rattle.opening.specs.Opened.{Opens};
 ghost use Rattle.receiving.specs.Listening.{not_sent, heard_left, heard_answer, link_left, link_answer};
 
 use counters::refusal::Refusal;
@@ -16,7 +15,7 @@ use opening::Opened;
 
 // Number 10: where a bit, counted from 1, stands in the segment of channel i.
 fn find_bit(opened: &Opened, i: usize, bit: BitNumber) -> Result<usize, Refusal>
-    requires { Opens opened.now × (i < opened.now.fields.channels) }
+    requires { i < opened.now.fields.channels }
     ensures number { Refuses (line (not_sent opened.now.fields i bit.0) 10 ∷ []) result }
     ensures index { IfOk result (λ m. (m ≡ bit.0 - 1) × (m < size_of opened.now.fields i)) }
 {

@@ -6,7 +6,6 @@ ghost use Rattle.counters.specs.Refusals.{number_of, at_of};
 ghost use Rattle.sheet.specs.Fields.{sheet_of};
 ghost use Rattle.sheet.specs.Sizes.{encoded_all, capacity_all};
 ghost use Rattle.frame.specs.Bit.{is_bit};
-ghost use Rattle.opening.specs.Opened.{opened_of, Opens};
 ghost use Rattle.looking.specs.Outcome.{outcome};
 ghost use Rattle.looking.specs.Looking.{frame_lines, Looks};
 ghost use Rattle.sending.specs.Building.{build_into, multiplex_into, spread_into};
@@ -22,8 +21,7 @@ use opening::{Opened, open_sheet};
 // The contents are asked, of which a buffer of n places is to take the frame.
 fn open_contents(bytes: &[u8], frame: FrameNumber, contents: &[u8], n: usize) -> Result<Opened, Refusal>
     ensures number { Looks is_bit (frame_lines bytes.now frame.0) contents.now (encoded_all (sheet_of bytes.now)) n (capacity_all (sheet_of bytes.now)) result }
-    ensures opened { IfOk result (λ o. o ≡ opened_of (sheet_of bytes.now)) }
-    ensures opens { IfOk result (λ o. Opens o) }
+    ensures opened { IfOk result (λ o. o.fields ≡ sheet_of bytes.now) }
     ensures long { IfOk result (λ o. (length contents.now ≡ encoded_all o.fields) × (n ≡ capacity_all o.fields)) }
 {
     let opened = open_frame(bytes, frame)?;

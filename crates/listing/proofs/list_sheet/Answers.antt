@@ -1,7 +1,7 @@
 use native.Mathlib.Omega.{arith}
 use mathlib.Core.Path.{sym, ap, ◌∙◌}
 use Rattle.counters.proofs.RefusalLaws.{refusal_positive}
-use Rattle.opening.specs.declared.Opened.{Opened}
+use Rattle.sheet.specs.declared.Sheet.{Sheet}
 use Rattle.listing.specs.Listing.{lines_to, refusal, text_of}
 use Rattle.listing.proofs.ListLaws.{listing_yes, listing_no}
 use Rattle.listing.proofs.list_sheet.Goals as goal
@@ -9,7 +9,7 @@ use Rattle.listing.proofs.list_sheet.Goals as goal
 pub returns-in-Ok : goal.returns-in-Ok
 returns-in-Ok c =
     let o = c.in-Ok.ensures in
-    let f = ap (λ (x : Opened). lines_to x.fields x.fields.channels) o.opened in
+    let f = ap (λ (x : Sheet). lines_to x x.channels) o.opened in
     (c.list.ensures.0 ∙ ap text_of (f ∙ listing_yes c.args.bytes.now (sym o.number.0)), c.list.ensures.1)
 
 pub returns-in-Err : goal.returns-in-Err
