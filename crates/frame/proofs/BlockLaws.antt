@@ -79,10 +79,10 @@ module _ (sh : Sheet) (t : ℕ) {a : ℕ} (ea : a ≡ slot_start sh t) {most : �
       ∙ ap₂ (block_of sh.mode (subframes_of sh) h (places_all sh)) ea (span_size sh t ea p)
 
   -- steps 8 and 9: what is made of the slot's bits, whatever stood at its places
-  pub slot-spread : Accepted sh → h < subframes_of sh → t < sh.slots → {r : Runs} → RunsAt sh t r → {caps : List ℕ} → caps ≡ sh.caps
+  pub slot-spread : Accepted sh → h < subframes_of sh → t < sh.slots → {r : Runs} → RunsAt sh t r
       → (bits out : List ℕ) → length bits ≡ capacity_all sh → length out ≡ slot_capacity sh t → {n : ℕ} → n ≡ slot_capacity sh t → {y : List ℕ}
-      → y ≡ slot_of (in_runs r.first r.other) (take (s.to - s.from) (drop s.from caps)) (take n (drop b.at (second_interleaved (block_in b bits)))) out
+      → y ≡ slot_of (in_runs r.first r.other) (take (s.to - s.from) (drop s.from sh.caps)) (take n (drop b.at (second_interleaved (block_in b bits)))) out
       → y ≡ slot_mapped sh t (slot_bits sh bits h t)
-  slot-spread ok m l k ec bits out full room en e =
+  slot-spread ok m l k bits out full room en e =
       let q = block_bits sh m l block_is bits full en in
-      slot-made sh t ea p ok l k ec _ out (ap length q ∙ length-slot-bits sh bits full h t m l) room e ∙ ap (slot_mapped sh t) q
+      slot-made sh t ea p ok l k _ out (ap length q ∙ length-slot-bits sh bits full h t m l) room e ∙ ap (slot_mapped sh t) q

@@ -89,7 +89,7 @@ module _ (sh : Sheet) (ok : Accepted sh) (i : ℕ) (l : i < sh.channels) where
   -- what comes out is what the channel sends
   pub sent_is : (frame : ℕ) (w : Walk) → Walks sh frame i w → (c : List ℕ) → length c ≡ encoded_of sh i → {p f : ℕ} {out : List ℕ}
       → p ≡ column_at (tti_of sh i) (frame % frames_of sh i) → f ≡ frames_of sh i
-      → out ≡ matched as_is (signed_by w.less w.m) w.n w.e (every 0 p f w.n c)
+      → out ≡ matched as_is (signed_by w.d.less w.d.size) w.n w.e (every 0 p f w.n c)
       → out ≡ sent_of as_is sh frame i (equalised 0 (tti_of sh i) (size_of sh i) c)
   sent_is frame w k c ec {p} {f} ep ef eo =
       let t = equalised 0 (tti_of sh i) (size_of sh i) c in
@@ -98,7 +98,7 @@ module _ (sh : Sheet) (ok : Accepted sh) (i : ℕ) (l : i < sh.channels) where
       ∙ ap₂ (λ (d : ℤ) (xs : List ℕ). matched as_is d w.n w.e xs) k.change (segment_read frame c ec ep ef k.size)
       ∙ ap (λ (n : ℕ). matched as_is (change_of sh i) n w.e (part_of sh frame i t)) k.size
       ∙ matched-start as_is (change_of sh i) (size_of sh i) w.e (start_at sh frame i) (part_of sh frame i t) (length_part as_is sh ok frame i t l full)
-      (λ a b. k.start a (let p : 0 < nat_abs (signed_by w.less w.m) = rw k.change b in rw (magnitude w.less w.m) at p))
+      (λ a b. k.start a (let p : 0 < nat_abs (signed_by w.d.less w.d.size) = rw k.change b in rw (magnitude w.d.less w.d.size) at p))
       ∙ sym (sent_matched as_is sh ok frame i t)
 
   -- the start that the code works out is step 5's where there is a pattern
@@ -110,7 +110,7 @@ module _ (sh : Sheet) (ok : Accepted sh) (i : ℕ) (l : i < sh.channels) where
 
 -- a walk fits a segment of N and its share
 pub fits_by : (sh : Sheet) (number i : ℕ) (w : Walk) → Walks sh number i w → {n v : ℕ} → n ≡ size_of sh i → v ≡ share_of sh i
-    → Segment w.less w.m n v w.e
+    → Segment w.d.less w.d.size n v w.e
 fits_by sh number i w k p q = rw (p ∙ sym k.size, q) k.fits
 
 -- channel after channel: the part of the contents, and the part of the multiplexed frame
@@ -138,13 +138,12 @@ module _ (o : Opened) (h : Opens o) (i : ℕ) (l : i < o.fields.channels) where
       omega (arith, high_is o h i l, cut_most (capacity_all sh) (weight_of sh) sh.channels (weighs sh h.accepted) (i + 1) (omega arith))
 
   -- one channel more is laid
-  pub sent_more : (g : ℕ → List ℕ) (was out : List ℕ) {y : List ℕ} → Laid was out (cut_of sh i) (joined g i)
-      → length y ≡ get_or o.cuts (i + 1) 0 - get_or o.cuts i 0 → y ≡ g i
-      → Laid was (put_mid (get_or o.cuts i 0) (get_or o.cuts (i + 1) 0 - get_or o.cuts i 0) out y) (cut_of sh (i + 1)) (joined g (i + 1))
-  sent_more g was out {y} w n q =
-      let put = put_mid (get_or o.cuts i 0) (get_or o.cuts (i + 1) 0 - get_or o.cuts i 0) out y in
-      let v = subst (λ (k : ℕ). Laid was out k (joined g i)) (sym (low-is o h i l)) w in
-      subst (λ (k : ℕ). Laid was put k (joined g (i + 1))) (high_is o h i l) (laid-joined g was out _ _ i v (cut_rises o h i l) n q)
+  pub sent_more : (g : ℕ → List ℕ) (was out : List ℕ) {y : List ℕ} {a z : ℕ} → a ≡ get_or o.cuts i 0 → z ≡ get_or o.cuts (i + 1) 0
+      → Laid was out (cut_of sh i) (joined g i) → length y ≡ z - a → y ≡ g i → Laid was (put_mid a (z - a) out y) (cut_of sh (i + 1)) (joined g (i + 1))
+  sent_more g was out {y} {a} {z} ea ez w n q =
+      let v = subst (λ (k : ℕ). Laid was out k (joined g i)) (sym (ea ∙ low-is o h i l)) w in
+      let rises : a ≤ z = omega (arith, cut_rises o h i l) in
+      subst (λ (k : ℕ). Laid was (put_mid a (z - a) out y) k (joined g (i + 1))) (ez ∙ high_is o h i l) (laid-joined g was out _ _ i v rises n q)
 
 -- nothing is laid before the first channel
 pub sent_none : {A : Type 0} (sh : Sheet) → Accepted sh → (xs : List A) → Laid xs xs (cut_of sh 0) []

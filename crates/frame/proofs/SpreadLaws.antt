@@ -81,9 +81,6 @@ module _ (sh : Sheet) (t : ℕ) {a : ℕ} (ea : a ≡ slot_start sh t) where
     pub span_size : s.end - a ≡ slot_capacity sh t
     span_size = omega (arith, p.end)
 
-    pub span_next : s.end ≡ slot_start sh s.next
-    span_next = p.end ∙ sum_more (slot_capacity sh) t ea refl ∙ ap (slot_start sh) (sym p.next)
-
     pub caps_lent : take (s.to - s.from) (drop s.from sh.caps) ≡ caps_of sh t
     unfolding caps_of
     caps_lent =
@@ -91,25 +88,17 @@ module _ (sh : Sheet) (t : ℕ) {a : ℕ} (ea : a ≡ slot_start sh t) where
         ap₂ (λ (x y : ℕ). take x (drop y sh.caps)) e p.from
 
     -- step 9: what is asked of the slot, and what is made of its bits, whatever stood at its places
-    module _ (ok : Accepted sh) (l : t < sh.slots) {r : Runs} (k : RunsAt sh t r) {caps : List ℕ} (ec : caps ≡ sh.caps) where
+    module _ (ok : Accepted sh) (l : t < sh.slots) {r : Runs} (k : RunsAt sh t r) where
       pub slot-fits : {n m : ℕ} → n ≡ slot_capacity sh t → m ≡ slot_capacity sh t
-          → Coded (take (s.to - s.from) (drop s.from caps)) r.first r.other n m
+          → Coded (take (s.to - s.from) (drop s.from sh.caps)) r.first r.other n m
       slot-fits en em =
           let z = sym (caps-size sh ok t l) in
-          rw (ec, caps_lent) (turned_coded sh t ok l k (record { bits = en ∙ z; room = em ∙ z }))
+          rw caps_lent (turned_coded sh t ok l k (record { bits = en ∙ z; room = em ∙ z }))
 
       pub slot-made : (bits out : List ℕ) → length bits ≡ slot_capacity sh t → length out ≡ slot_capacity sh t → {y : List ℕ}
-          → y ≡ slot_of (in_runs r.first r.other) (take (s.to - s.from) (drop s.from caps)) bits out
+          → y ≡ slot_of (in_runs r.first r.other) (take (s.to - s.from) (drop s.from sh.caps)) bits out
           → y ≡ slot_mapped sh t bits
       slot-made bits out n m {y} e =
           let z = sym (caps-size sh ok t l) in
-          let q : y ≡ slot_of (runs_of sh t) (caps_of sh t) bits out = rw (ec, caps_lent, ← k.runs) at e in
+          let q : y ≡ slot_of (runs_of sh t) (caps_of sh t) bits out = rw (caps_lent, ← k.runs) at e in
           q ∙ mapped_over (at (caps_of sh t)) (runs_of sh t) (length (caps_of sh t)) (λ j h. runs-some sh t j) 0 bits out bits (n ∙ z) (m ∙ z) (n ∙ z)
-
--- its span by the arrays as they are lent beside the sheet
-module _ (sh : Sheet) {phchs caps : List ℕ} (ep : phchs ≡ sh.phchs) (ec : caps ≡ sh.caps) {t a most : ℕ} where
-  pub lent_asks : Spanned sh.phchs sh.caps t a most → Spanned phchs caps t a most
-  lent_asks x = rw (ep, ec) x
-
-  pub lent_span : {s : Span} → Spans phchs caps t a most s → Spans sh.phchs sh.caps t a most s
-  lent_span x = rw (← ep, ← ec) x

@@ -8,9 +8,9 @@ use Rattle.pattern.specs.Pattern.{Segment}
 use Rattle.frame.specs.Frame.{start_at}
 use Rattle.frame.specs.declared.walking.Walk.{Walk}
 
--- N, d by its sign and its magnitude, and the start, which counts only where there is a pattern
+-- N, d, and the start, which counts only where there is a pattern
 pub record Walks (sh : Sheet) (number i : ℕ) (w : Walk) : Type 0 where
   pub size : w.n ≡ size_of sh i
-  pub change : signed_by w.less w.m ≡ change_of sh i
-  pub start : 0 < size_of sh i → 0 < w.m → w.e ≡ start_at sh number i
-  pub fits : Segment w.less w.m w.n (share_of sh i) w.e
+  pub change : signed_by w.d.less w.d.size ≡ change_of sh i
+  pub start : 0 < size_of sh i → 0 < w.d.size → w.e ≡ start_at sh number i
+  pub fits : Segment w.d.less w.d.size w.n (share_of sh i) w.e

@@ -2,7 +2,6 @@
 ghost use Rattle.std.specs.Prelude.{◌≡◌, ◌<◌, length};
 ghost use Rattle.sheet.specs.Fields.{tti_of, encoded_of};
 ghost use Rattle.sheet.specs.Sizes.{size_of, encoded_all, capacity_all};
-ghost use Rattle.sheet.specs.Range.{Accepted};
 ghost use Rattle.matching.specs.Shares.{share_of};
 ghost use Rattle.opening.specs.Opened.{Opens};
 ghost use Rattle.pattern.specs.Pattern.{as_is};
@@ -13,62 +12,37 @@ use crate::walking::walk_of;
 use counters::FrameNumber;
 use opening::Opened;
 use sheet::sizes::frames;
-use sheet::{Sheet, count, wide};
 
 // The bits that channel i sends: the frame's segment is every F-th of its bits, from the frame's column on. With F = 1 there is one column, and
 // nothing is worked out for it.
-fn send(
-    contents: &[u8],
-    fields: Sheet,
-    i: usize,
-    n: u64,
-    tti: u16,
-    frame: FrameNumber,
-    out: &mut [u8],
-)
-    requires { Accepted fields × (i < fields.channels) × (n ≡ size_of fields i) × (tti ≡ tti_of fields i) × (length contents.now ≡ encoded_of fields i) × (length out.old ≡ share_of fields i) }
-    ensures { out.new ≡ sent_of as_is fields frame.0 i (equalised 0 (tti_of fields i) (size_of fields i) contents.now) }
+fn send(contents: &[u8], opened: &Opened, i: usize, frame: FrameNumber, out: &mut [u8])
+    requires { Opens opened.now × (i < opened.now.fields.channels) × (length contents.now ≡ encoded_of opened.now.fields i) × (length out.old ≡ share_of opened.now.fields i) }
+    ensures { out.new ≡ sent_of as_is opened.now.fields frame.0 i (equalised 0 (tti_of opened.now.fields i) (size_of opened.now.fields i) contents.now) }
 {
-    let w = walk_of(fields, i, n, out.len() as u64, tti, frame);
+    let n = u64::from(opened.sizes[i]);
+    let tti = opened.fields.tti[i];
+    let w = walk_of(&opened.fields, i, n, out.len() as u64, tti, frame);
     if tti == 0 {
-        pattern::match_rate(contents, w.n, 0, 1, out, w.e, w.less, w.m);
+        pattern::match_rate(contents, w.n, 0, 1, out, w.e, w.d);
     } else {
         let f = frames(tti);
         let k = frame.within(f);
-        let p = orders::column(count(tti), k);
-        pattern::match_rate(contents, w.n, p, f as usize, out, w.e, w.less, w.m);
+        let p = orders::column(usize::from(tti), k);
+        pattern::match_rate(contents, w.n, p, f as usize, out, w.e, w.d);
     }
 }
 
 // Channel after channel.
-pub fn multiplex_bits(contents: &[u8], opened: Opened, frame: FrameNumber, out: &mut [u8])
-    requires { Opens opened × (length contents.now ≡ encoded_all opened.fields) × (length out.old ≡ capacity_all opened.fields) }
-    ensures { out.new ≡ multiplexed_bits opened.fields frame.0 contents.now }
+pub fn multiplex_bits(contents: &[u8], opened: &Opened, frame: FrameNumber, out: &mut [u8])
+    requires { Opens opened.now × (length contents.now ≡ encoded_all opened.now.fields) × (length out.old ≡ capacity_all opened.now.fields) }
+    ensures { out.new ≡ multiplexed_bits opened.now.fields frame.0 contents.now }
 {
-    let fields = opened.fields;
-    let es = fields.e;
-    let ttis = fields.tti;
-    let sizes = opened.sizes;
-    let cuts = opened.cuts;
-    let n = count(fields.channels);
-    let mut i: usize = 0;
     let mut from: usize = 0;
-    while i < n {
-        let to = from + count(es[i]);
-        let a = cuts[i] as usize;
-        let z = cuts[i + 1] as usize;
-        let size = wide(sizes[i]);
-        let tti = ttis[i];
-        send(
-            &contents[from..to],
-            fields,
-            i,
-            size,
-            tti,
-            frame,
-            &mut out[a..z],
-        );
+    for i in 0..usize::from(opened.fields.channels) {
+        let to = from + usize::from(opened.fields.e[i]);
+        let a = usize::from(opened.cuts[i]);
+        let z = usize::from(opened.cuts[i + 1]);
+        send(&contents[from..to], opened, i, frame, &mut out[a..z]);
         from = to;
-        i += 1;
     }
 }

@@ -1,4 +1,6 @@
-// How many places a frame may have that is built, or taken back, in a room of each size but the largest: specs/Room.antt.
+// How many places a frame may have that is built, or taken back, in a room of each size: specs/Room.antt, and MOST_BITS the largest.
+use sheet::counts::MOST_BITS;
+
 pub const TINY: usize = 256;
 
 pub const SMALL: usize = 1024;
@@ -8,3 +10,5 @@ pub const MIDDLE: usize = 4096;
 pub const LARGE: usize = 16384;
 
 pub const HUGE: usize = 32768;
+
+pub const WHOLE: usize = MOST_BITS as usize;

@@ -14,13 +14,12 @@ use matching::shares::{Change, difference};
 use offset::start;
 use sheet::Sheet;
 
-// N, the start e, and d by its sign and its magnitude m.
+// N, the start e, and d.
 #[derive(Clone, Copy)]
 pub struct Walk {
     pub n: usize,
     pub e: usize,
-    pub less: bool,
-    pub m: usize,
+    pub d: Change,
 }
 
 // The start e, and 1 where no pattern starts: an empty channel, or d = 0.
@@ -37,18 +36,16 @@ pub fn start_of(n: u64, d: Change, tti: u16, frame: FrameNumber) -> u64
     start(n, d, tti, frame)
 }
 
-// The walk of channel i, counted from 0, in a frame, by its N, its V and its TTI. The fields are there for the contract alone: a struct out of which
-// an array is read would be copied whole for each channel.
-pub fn walk_of(fields: Sheet, i: usize, n: u64, v: u64, tti: u16, number: FrameNumber) -> Walk
-    requires { Accepted fields × (i < fields.channels) × (n ≡ size_of fields i) × (v ≡ share_of fields i) × (tti ≡ tti_of fields i) }
-    ensures { Walks fields number.0 i result }
+// The walk of channel i, counted from 0, in a frame, by its N, its V and its TTI.
+pub fn walk_of(fields: &Sheet, i: usize, n: u64, v: u64, tti: u16, number: FrameNumber) -> Walk
+    requires { Accepted fields.now × (i < fields.now.channels) × (n ≡ size_of fields.now i) × (v ≡ share_of fields.now i) × (tti ≡ tti_of fields.now i) }
+    ensures { Walks fields.now number.0 i result }
 {
     let d = difference(v, n);
     let e = start_of(n, d, tti, number);
     Walk {
         n: n as usize,
         e: e as usize,
-        less: d.less,
-        m: d.size as usize,
+        d,
     }
 }

@@ -1,6 +1,4 @@
 use mathlib.Core.Path.{◌≡◌}
-use Prim.Native.Nat.{◌-◌, ◌≤◌}
-use lib.ListN.{length}
 use Rattle.laws.specs.Sums.{sum_to}
 use Rattle.laws.specs.Laid.{Laid}
 use Rattle.laws.specs.Joined.{joined}
@@ -12,8 +10,5 @@ use Rattle.frame.proofs.multiplexing.multiplex_bits.Given as goal
 
 abbrev pub invariant-loop-i : goal.invariant-loop-i
 invariant-loop-i l =
-    (l.i ≤ l.n) × (l.from ≡ sum_to (encoded_of l.fields) l.i) × (length l.out ≡ length l.initial.out)
-    × Laid l.initial.out l.out (cut_of l.fields l.i) (joined (λ k. sent_of as_is l.fields l.frame.0 k (bits_of l.fields l.contents k)) l.i)
-
-abbrev pub decreases-loop-i : goal.decreases-loop-i
-decreases-loop-i l = l.n - l.i
+    (l.from ≡ sum_to (encoded_of l.opened.fields) l.i)
+    × Laid l.initial.out l.out (cut_of l.opened.fields l.i) (joined (λ k. sent_of as_is l.opened.fields l.frame.0 k (bits_of l.opened.fields l.contents k)) l.i)

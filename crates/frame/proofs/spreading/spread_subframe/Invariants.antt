@@ -1,4 +1,3 @@
-use Prim.Native.Nat.{◌-◌}
 use Rattle.sheet.specs.Sizes.{slot_capacity}
 use Rattle.frame.specs.Frame.{slot_bits, slot_mapped}
 use Rattle.frame.specs.Slots.{Partwise}
@@ -6,6 +5,3 @@ use Rattle.frame.proofs.spreading.spread_subframe.Given as goal
 
 abbrev pub invariant-loop-t : goal.invariant-loop-t
 invariant-loop-t l = Partwise (slot_capacity l.fields) l.fields.slots (λ i. slot_mapped l.fields i (slot_bits l.fields l.bits l.h i)) l.initial.out l.out l.t l.a
-
-abbrev pub decreases-loop-t : goal.decreases-loop-t
-decreases-loop-t l = l.fields.slots - l.t
