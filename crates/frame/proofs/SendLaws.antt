@@ -26,7 +26,6 @@ use Rattle.matching.specs.Shares.{weight_of, cut_of, share_of, change_of}
 use Rattle.matching.proofs.ShareLaws.{cut_first, cut_most}
 use Rattle.offset.specs.Offset.{start_of}
 use Rattle.opening.proofs.OpenLaws.{sizes_most, weighs, low-is, high_is, cut_rises}
-use Rattle.opening.specs.Opened.{Opens}
 use Rattle.opening.specs.declared.Opened.{Opened}
 use Rattle.pattern.specs.Pattern.{as_is, matched, Segment}
 use Rattle.pattern.specs.Every.{every, Strided}
@@ -114,7 +113,7 @@ pub fits_by : (sh : Sheet) (number i : ℕ) (w : Walk) → Walks sh number i w �
 fits_by sh number i w k p q = rw (p ∙ sym k.size, q) k.fits
 
 -- channel after channel: the part of the contents, and the part of the multiplexed frame
-module _ (o : Opened) (h : Opens o) (i : ℕ) (l : i < o.fields.channels) where
+module _ (o : Opened) (i : ℕ) (l : i < o.fields.channels) where
   abbrev sh : Sheet
   sh = o.fields
 
@@ -131,19 +130,19 @@ module _ (o : Opened) (h : Opens o) (i : ℕ) (l : i < o.fields.channels) where
       )
 
   pub cut_share : get_or o.cuts (i + 1) 0 - get_or o.cuts i 0 ≡ share_of sh i
-  cut_share = ap₂ ◌-◌ (high_is o h i l) (low-is o h i l)
+  cut_share = ap₂ ◌-◌ (high_is o i l) (low-is o i l)
 
   pub cut_within : get_or o.cuts (i + 1) 0 ≤ capacity_all sh
   cut_within =
-      omega (arith, high_is o h i l, cut_most (capacity_all sh) (weight_of sh) sh.channels (weighs sh h.accepted) (i + 1) (omega arith))
+      omega (arith, high_is o i l, cut_most (capacity_all sh) (weight_of sh) sh.channels (weighs sh o.accepted) (i + 1) (omega arith))
 
   -- one channel more is laid
   pub sent_more : (g : ℕ → List ℕ) (was out : List ℕ) {y : List ℕ} {a z : ℕ} → a ≡ get_or o.cuts i 0 → z ≡ get_or o.cuts (i + 1) 0
       → Laid was out (cut_of sh i) (joined g i) → length y ≡ z - a → y ≡ g i → Laid was (put_mid a (z - a) out y) (cut_of sh (i + 1)) (joined g (i + 1))
   sent_more g was out {y} {a} {z} ea ez w n q =
-      let v = subst (λ (k : ℕ). Laid was out k (joined g i)) (sym (ea ∙ low-is o h i l)) w in
-      let rises : a ≤ z = omega (arith, cut_rises o h i l) in
-      subst (λ (k : ℕ). Laid was (put_mid a (z - a) out y) k (joined g (i + 1))) (ez ∙ high_is o h i l) (laid-joined g was out _ _ i v rises n q)
+      let v = subst (λ (k : ℕ). Laid was out k (joined g i)) (sym (ea ∙ low-is o i l)) w in
+      let rises : a ≤ z = omega (arith, cut_rises o i l) in
+      subst (λ (k : ℕ). Laid was (put_mid a (z - a) out y) k (joined g (i + 1))) (ez ∙ high_is o i l) (laid-joined g was out _ _ i v rises n q)
 
 -- nothing is laid before the first channel
 pub sent_none : {A : Type 0} (sh : Sheet) → Accepted sh → (xs : List A) → Laid xs xs (cut_of sh 0) []

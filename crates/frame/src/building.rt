@@ -2,7 +2,6 @@
 ghost use Rattle.std.specs.Prelude.{◌≡◌, ◌≤◌, length};
 ghost use Rattle.sheet.specs.Counts.{most_bits};
 ghost use Rattle.sheet.specs.Sizes.{encoded_all, capacity_all};
-ghost use Rattle.opening.specs.Opened.{Opens};
 ghost use Rattle.frame.specs.Frame.{bit_frame};
 
 use crate::multiplexing::multiplex_bits;
@@ -13,7 +12,7 @@ use opening::Opened;
 
 // The room is for the multiplexed bits; a frame takes its first part.
 fn build_in<const ROOM: usize>(contents: &[u8], opened: &Opened, frame: FrameNumber, out: &mut [u8])
-    requires { Opens opened.now × (length contents.now ≡ encoded_all opened.now.fields) × (ROOM ≤ most_bits) × (length out.old ≤ ROOM) × (length out.old ≡ capacity_all opened.now.fields) }
+    requires { (length contents.now ≡ encoded_all opened.now.fields) × (ROOM ≤ most_bits) × (length out.old ≤ ROOM) × (length out.old ≡ capacity_all opened.now.fields) }
     ensures { out.new ≡ bit_frame opened.now.fields frame.0 contents.now }
 {
     let mut room = [0u8; ROOM];
@@ -26,7 +25,7 @@ fn build_in<const ROOM: usize>(contents: &[u8], opened: &Opened, frame: FrameNum
 // (docs/SPEED.md), so it is not to be drawn into its caller.
 #[inline(never)]
 fn build_far(contents: &[u8], opened: &Opened, frame: FrameNumber, out: &mut [u8])
-    requires { Opens opened.now × (length contents.now ≡ encoded_all opened.now.fields) × (length out.old ≡ capacity_all opened.now.fields) }
+    requires { (length contents.now ≡ encoded_all opened.now.fields) × (length out.old ≡ capacity_all opened.now.fields) }
     ensures { out.new ≡ bit_frame opened.now.fields frame.0 contents.now }
 {
     if out.len() <= LARGE {
@@ -39,7 +38,7 @@ fn build_far(contents: &[u8], opened: &Opened, frame: FrameNumber, out: &mut [u8
 }
 
 pub fn build_bits(contents: &[u8], opened: &Opened, frame: FrameNumber, out: &mut [u8])
-    requires { Opens opened.now × (length contents.now ≡ encoded_all opened.now.fields) × (length out.old ≡ capacity_all opened.now.fields) }
+    requires { (length contents.now ≡ encoded_all opened.now.fields) × (length out.old ≡ capacity_all opened.now.fields) }
     ensures { out.new ≡ bit_frame opened.now.fields frame.0 contents.now }
 {
     let n = out.len();

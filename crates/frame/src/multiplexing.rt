@@ -3,7 +3,6 @@ ghost use Rattle.std.specs.Prelude.{◌≡◌, ◌<◌, length};
 ghost use Rattle.sheet.specs.Fields.{tti_of, encoded_of};
 ghost use Rattle.sheet.specs.Sizes.{size_of, encoded_all, capacity_all};
 ghost use Rattle.matching.specs.Shares.{share_of};
-ghost use Rattle.opening.specs.Opened.{Opens};
 ghost use Rattle.pattern.specs.Pattern.{as_is};
 ghost use Rattle.interleaving.specs.First.{equalised};
 ghost use Rattle.frame.specs.Frame.{sent_of, multiplexed_bits};
@@ -16,7 +15,7 @@ use sheet::sizes::frames;
 // The bits that channel i sends: the frame's segment is every F-th of its bits, from the frame's column on. With F = 1 there is one column, and
 // nothing is worked out for it.
 fn send(contents: &[u8], opened: &Opened, i: usize, frame: FrameNumber, out: &mut [u8])
-    requires { Opens opened.now × (i < opened.now.fields.channels) × (length contents.now ≡ encoded_of opened.now.fields i) × (length out.old ≡ share_of opened.now.fields i) }
+    requires { (i < opened.now.fields.channels) × (length contents.now ≡ encoded_of opened.now.fields i) × (length out.old ≡ share_of opened.now.fields i) }
     ensures { out.new ≡ sent_of as_is opened.now.fields frame.0 i (equalised 0 (tti_of opened.now.fields i) (size_of opened.now.fields i) contents.now) }
 {
     let n = u64::from(opened.sizes[i]);
@@ -34,7 +33,7 @@ fn send(contents: &[u8], opened: &Opened, i: usize, frame: FrameNumber, out: &mu
 
 // Channel after channel.
 pub fn multiplex_bits(contents: &[u8], opened: &Opened, frame: FrameNumber, out: &mut [u8])
-    requires { Opens opened.now × (length contents.now ≡ encoded_all opened.now.fields) × (length out.old ≡ capacity_all opened.now.fields) }
+    requires { (length contents.now ≡ encoded_all opened.now.fields) × (length out.old ≡ capacity_all opened.now.fields) }
     ensures { out.new ≡ multiplexed_bits opened.now.fields frame.0 contents.now }
 {
     let mut from: usize = 0;

@@ -33,24 +33,24 @@ module _ (c : In-loop-i) where
   inside = omega arith
 
   up : get_or o.cuts i 0 ≤ get_or o.cuts (i + 1) 0
-  up = cut_rises o c.requires.0 i inside
+  up = cut_rises o i inside
 
   last : get_or o.cuts (i + 1) 0 ≤ length c.loop-i.out
-  last = omega (arith, cut_within o c.requires.0 i inside)
+  last = omega (arith, cut_within o i inside)
 
 pub loop-i-init : goal.loop-i-init
 unfolding sum_to joined
-loop-i-init c = (refl, sent_none c.args.opened.now.fields c.requires.0.accepted _)
+loop-i-init c = (refl, sent_none c.args.opened.now.fields c.args.opened.now.accepted _)
 
 pub overflow_add-to : goal.overflow_add-to
 overflow_add-to c =
     let g = (goal.at.overflow_add-to c).In-loop-i in
-    omega (arith, content_within (o g) c.requires.0 (i g) (inside g) c.loop-i.invariant.0 c.from.ensures)
+    omega (arith, content_within (o g) (i g) (inside g) c.loop-i.invariant.0 c.from.ensures)
 
 pub slice_bounds-send-end : goal.slice_bounds-send-end
 slice_bounds-send-end c =
     let g = (goal.at.slice_bounds-send-end c).In-loop-i in
-    omega (arith, content_within (o g) c.requires.0 (i g) (inside g) c.loop-i.invariant.0 c.from.ensures)
+    omega (arith, content_within (o g) (i g) (inside g) c.loop-i.invariant.0 c.from.ensures)
 
 pub slice_bounds-send-count-in-loop-i : goal.slice_bounds-send-count-in-loop-i
 slice_bounds-send-count-in-loop-i c = omega (arith, up (goal.at.slice_bounds-send-count-in-loop-i c).In-loop-i)
@@ -64,9 +64,9 @@ slice_bounds-send-end-in-loop-i c = omega (arith, last (goal.at.slice_bounds-sen
 pub send-requires : goal.send-requires
 send-requires c =
     let g = (goal.at.send-requires c).In-loop-i in
-    let part = content_part (o g) c.requires.0 (i g) (inside g) c.args.contents.now c.loop-i.invariant.0 c.from.ensures c.requires.1 in
+    let part = content_part (o g) (i g) (inside g) c.args.contents.now c.loop-i.invariant.0 c.from.ensures c.requires.0 in
     let n = part_length c.loop-i.out c.from-a.result c.from-z.result (omega (arith, up g)) (omega (arith, last g)) in
-    (c.requires.0, inside g, part.1, omega (arith, n, cut_share (o g) c.requires.0 (i g) (inside g)))
+    (inside g, part.1, omega (arith, n, cut_share (o g) (i g) (inside g)))
 
 pub loop-i-preserved : goal.loop-i-preserved
 unfolding bits_of
@@ -75,11 +75,11 @@ loop-i-preserved c =
     let l = c.loop-i in
     let sh = (o g).fields in
     let f = c.args.frame.0 in
-    let part = content_part (o g) c.requires.0 (i g) (inside g) c.args.contents.now l.invariant.0 c.from.ensures c.requires.1 in
+    let part = content_part (o g) (i g) (inside g) c.args.contents.now l.invariant.0 c.from.ensures c.requires.0 in
     let sent = c.send.ensures ∙ ap (λ (x : List ℕ). sent_of as_is sh f (i g) (equalised 0 (tti_of sh (i g)) (size_of sh (i g)) x)) part.0 in
     let n = c.send.auto.out ∙ part_length l.out c.from-a.result c.from-z.result (omega (arith, up g)) (omega (arith, last g)) in (
       sum_more (encoded_of sh) (i g) l.invariant.0 c.from.ensures,
-      sent_more (o g) c.requires.0 (i g) (inside g) (λ j. sent_of as_is sh f j (bits_of sh c.args.contents.now j)) c.args.out.now l.out c.from-a.ensures
+      sent_more (o g) (i g) (inside g) (λ j. sent_of as_is sh f j (bits_of sh c.args.contents.now j)) c.args.out.now l.out c.from-a.ensures
           c.from-z.ensures l.invariant.1 n sent,
     )
 
@@ -89,5 +89,5 @@ returns c =
     let l = c.loop-i in
     let sh = c.args.opened.now.fields in
     let e : l.i ≡ sh.channels = omega arith in
-    let d = ap (cut_of sh) e ∙ cuts_end sh c.requires.0.accepted ∙ sym c.requires.2 in
+    let d = ap (cut_of sh) e ∙ cuts_end sh c.args.opened.now.accepted ∙ sym c.requires.1 in
     laid-all _ _ _ _ l.invariant.1 d ∙ ap (joined (λ k. sent_of as_is sh c.args.frame.0 k (bits_of sh c.args.contents.now k))) e

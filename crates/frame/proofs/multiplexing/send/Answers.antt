@@ -11,7 +11,7 @@ use Rattle.frame.proofs.multiplexing.send.Goals as goal
 pub walk_of-w-requires : goal.walk_of-w-requires
 walk_of-w-requires c =
     let o = c.args.opened.now in
-    (c.requires.0.accepted, c.requires.1, c.from-n.ensures ∙ size_is o c.requires.0 c.args.i c.requires.1, c.requires.3, refl)
+    (c.args.opened.now.accepted, c.requires.0, c.from-n.ensures ∙ size_is o c.args.i c.requires.0, c.requires.2, refl)
 
 -- the column of n = frame number mod F
 turned : (c : After-column-p)
@@ -24,18 +24,18 @@ turned c =
 pub match_rate-requires-else-tti-eq0 : goal.match_rate-requires-else-tti-eq0
 match_rate-requires-else-tti-eq0 c =
     let sh = c.args.opened.now.fields in (
-      fits_by sh c.args.frame.0 c.args.i c.walk_of-w.result c.walk_of-w.ensures c.walk_of-w.ensures.size c.requires.3,
-      strided sh c.requires.0.accepted c.args.i c.requires.1 c.frames-f.ensures.0 c.walk_of-w.ensures.size c.requires.2,
+      fits_by sh c.args.frame.0 c.args.i c.walk_of-w.result c.walk_of-w.ensures c.walk_of-w.ensures.size c.requires.2,
+      strided sh c.args.opened.now.accepted c.args.i c.requires.0 c.frames-f.ensures.0 c.walk_of-w.ensures.size c.requires.1,
     )
 
 pub returns-then-tti-eq0 : goal.returns-then-tti-eq0
 returns-then-tti-eq0 c =
     let sh = c.args.opened.now.fields in
     let i = c.args.i in
-    sent_is sh c.requires.0.accepted i c.requires.1 c.args.frame.0 c.walk_of-w.result c.walk_of-w.ensures c.args.contents.now c.requires.2
+    sent_is sh c.args.opened.now.accepted i c.requires.0 c.args.frame.0 c.walk_of-w.result c.walk_of-w.ensures c.args.contents.now c.requires.1
     (column-one (tti_of sh i) c.args.frame.0 c.if-tti-eq0.true) (ap frames_in (sym c.if-tti-eq0.true)) c.match_rate.ensures
 
 pub returns-else-tti-eq0 : goal.returns-else-tti-eq0
 returns-else-tti-eq0 c =
-    sent_is c.args.opened.now.fields c.requires.0.accepted c.args.i c.requires.1 c.args.frame.0 c.walk_of-w.result c.walk_of-w.ensures
-    c.args.contents.now c.requires.2 (turned (goal.at.returns-else-tti-eq0 c).After-column-p) c.frames-f.ensures.0 c.match_rate-else-tti-eq0.ensures
+    sent_is c.args.opened.now.fields c.args.opened.now.accepted c.args.i c.requires.0 c.args.frame.0 c.walk_of-w.result c.walk_of-w.ensures
+    c.args.contents.now c.requires.1 (turned (goal.at.returns-else-tti-eq0 c).After-column-p) c.frames-f.ensures.0 c.match_rate-else-tti-eq0.ensures
