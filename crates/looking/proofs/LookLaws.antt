@@ -1,31 +1,19 @@
 -- Laws of calls that open a sheet, look at lent values and write others.
-use mathlib.Core.Path.{◌≡◌, refl, sym, ap, ap₂, ◌∙◌, subst}
+use mathlib.Core.Path.{◌≡◌, refl, sym, ap, ap₂, ◌∙◌}
 use mathlib.Core.Bool.{Bool, true, false, not, ◌&&◌, ◌||◌, cond}
 use mathlib.Core.List.{List, [], ◌∷◌, ◌++◌}
 use Prim.Native.Nat.{ℕ, ◌-◌, ◌≤◌, ◌<◌}
 use native.Mathlib.Omega.{arith}
-use borrow.Author.Tests.{eq-eqb, ne_eqb, lt-ltb, le-ltb, eqb-true, eqb-false, ltb-true, ltb-false, not-true, not-false}
+use borrow.Author.Tests.{eqb-false, ltb-true, ltb-false, not-true}
 use lib.Dec.{eqb, ltb}
-use lib.ListN.{length}
-use Rattle.laws.specs.FirstFail.{first_fail}
 use Rattle.laws.proofs.TestLaws.{or_left, or_right}
 use Rattle.counters.specs.Lines.{Line, line, first_of, given}
-use Rattle.counters.specs.Lines.{Answer}
 use Rattle.counters.proofs.CountLaws.{both_true}
-use Rattle.counters.proofs.LineLaws.{Numbered, none, more, each, pass_zero, clear_of, of_clear, append_clear, append-zero, last-holds, last_clear, first-append, given_yes, given_no}
-use Rattle.sheet.specs.Counts.{most_bits}
-use Rattle.sheet.specs.Fields.{sheet_of}
-use Rattle.sheet.specs.Sizes.{capacity_all}
-use Rattle.sheet.specs.Numbers.{read_lines, read_number}
-use Rattle.sheet.specs.Range.{Accepted}
+use Rattle.counters.proofs.LineLaws.{Numbered, none, more, each, given_yes, given_no}
+use Rattle.sheet.specs.Numbers.{read_lines}
 use Rattle.sheet.specs.declared.Sheet.{Sheet}
-use Rattle.sheet.proofs.NumberLaws.{read_numbered}
-use Rattle.opening.specs.Opened.{open_answer, Opens}
-use Rattle.opening.specs.declared.OpenAnswer.{OpenAnswer}
-use Rattle.opening.specs.declared.Opened.{Opened}
-use Rattle.opening.proofs.OpenLaws.{number_open, opened-is, accepted_in, opens, capacity_most}
 use Rattle.looking.specs.Outcome.{outcome}
-use Rattle.looking.specs.Looking.{last_frame, frame_lines, no_trch, not_long, look_lines, indexed, pointed_at, look_answer, looked, Begun}
+use Rattle.looking.specs.Looking.{last_frame, frame_lines, no_trch, indexed, looked}
 
 -- ---- a channel by its number
 
