@@ -1,4 +1,4 @@
--- The bits of a sheet are 0 or 1; what writing answers, and what the buffer then holds.
+-- The bits of a sheet are 0 or 1.
 use mathlib.Core.Path.{◌≡◌, sym, ap, ◌∙◌, subst}
 use mathlib.Core.List.{List, ◌++◌}
 use Prim.Native.Nat.{ℕ, zero, suc, ◌+◌, ◌-◌, ◌≤◌, ◌<◌}
@@ -9,9 +9,6 @@ use lib.Dec.{lit<}
 use lib.ListN.{length, get_or, get_or-eq_default, get_or-append}
 use lib.Seq.{get_or-append-add}
 use Rattle.laws.proofs.TableLaws.{table_at}
-use Rattle.counters.specs.Lines.{given, answer_of}
-use Rattle.counters.specs.Lines.{Answer}
-use Rattle.counters.proofs.LineLaws.{given_yes, given_no}
 use Rattle.bits.specs.Bits.{digit, field}
 use Rattle.bits.proofs.BitLaws.{field-length}
 use Rattle.sheet.specs.Layout.{head_widths, tti_width, encoded_width, ratio_width, codes_width, log_width, capacity_width}
@@ -61,14 +58,3 @@ module _ (sh : Sheet) where
   unfolding slots_bits
   slots_binary zero = channel_binary sh.channels
   slots_binary (suc t) = code_binary t (slots_bits sh t) (phchs_of sh t) (slots_binary t)
-
--- the answers, from the number k that the code has
-module _ (n count k : ℕ) (e : k ≡ n) where
-  made : (m w v : ℕ) → k ≡ m → w ≡ v → ◌≡◌ {A = Answer} (record { number = k; at = w }) (record { number = m; at = v })
-  made m w v p q = rw (p, q)
-
-  pub answer_yes : {w : ℕ} → k ≡ 0 → w ≡ count → ◌≡◌ {A = Answer} (record { number = k; at = w }) (answer_of n count)
-  answer_yes {w} z q = made n w (given n count 0) e (q ∙ sym (given_yes n count 0 (sym e ∙ z)))
-
-  pub answer_no : (k ≡ 0 → ⊥) → ◌≡◌ {A = Answer} (record { number = k; at = 0 }) (answer_of n count)
-  answer_no z = made n 0 (given n count 0) e (sym (given_no n count 0 (λ q. z (e ∙ q))))

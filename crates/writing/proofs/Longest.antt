@@ -4,9 +4,8 @@ use lib.ListN.{length, replicate}
 use Rattle.laws.specs.Sums.{sum_to, any_to}
 use Rattle.sheet.specs.Counts.{most_channels, most_slots, most_codes, most_capacities, most_logs, longest_sheet, longest_form}
 use Rattle.sheet.specs.Sizes.{bytes_needed, subframes_of}
-use Rattle.sheet.specs.Numbers.{read_number}
+use Rattle.sheet.specs.Numbers.{read_number, SheetAnswer}
 use Rattle.sheet.specs.declared.Sheet.{Sheet}
-use Rattle.sheet.specs.Numbers.{SheetAnswer}
 use Rattle.writing.specs.Numbers.{field_number}
 use Rattle.writing.specs.Written.{bytes_of}
 use Rattle.writing.proofs.ReadWritten.{bytes_length, bytes_back}

@@ -3,12 +3,16 @@ use mathlib.Core.Path.{◌≡◌, refl, sym, ap, ap₂, ◌∙◌}
 use mathlib.Core.Bool.{Bool, false, not, cond, ◌||◌}
 use mathlib.Core.List.{List, [], ◌∷◌}
 use Prim.Native.Nat.{ℕ, ◌≤◌, ◌<◌}
+use native.Mathlib.Omega.{arith}
 use borrow.Author.Tests.{ltb-false, eqb-true, eqb-false, not-false, le-ltb, eq-eqb, ne_eqb}
 use lib.Dec.{ltb, eqb}
 use Rattle.laws.specs.Sums.{any_to}
 use Rattle.laws.proofs.SumLaws.{any_each, any_none}
 use Rattle.laws.proofs.TestLaws.{or_left, or_right}
 use Rattle.counters.specs.Lines.{Line, line, first_of}
+use Rattle.counters.specs.Refusals.{refusal_number}
+use Rattle.counters.specs.declared.refusal.Refusal.{Refusal}
+use Rattle.counters.specs.declared.refusal.Refusal.TheVariants.{ShortSheet, OtherVersion, NoSlots, Malformed, NoCapacity, ManyBits, ManyPlaces, NoBits, LateFrame, Missing, WrongLength, BadValue, BadUplink, BadSubframe}
 use Rattle.counters.proofs.LineLaws.{Clear, Numbered, numbered_of, pass_zero, clear_of, of_clear, append_clear, append-zero, first-append}
 use Rattle.sheet.specs.Counts.{most_channels, most_slots, most_codes, most_tti, most_encoded, most_ratio, most_capacity}
 use Rattle.sheet.specs.Fields.{tti_of, encoded_of, ratio_of, phchs_of, capacity_of}
@@ -158,6 +162,23 @@ buffer-number sh n z = append_clear {xs = field_lines sh} (buffer_line sh n) (cl
 
 pub write_eleven : (sh : Sheet) (n : ℕ) → field_number sh ≡ 0 → (n ≡ bytes_needed sh → ⊥) → write_number sh n ≡ 11
 write_eleven sh n z h = buffer-number sh n z ∙ ap (λ (b : Bool). cond (not b) 11 0) (ne_eqb n (bytes_needed sh) h)
+
+-- a refusal has a number
+pub some_number : (r : Refusal) → refusal_number r ≡ 0 → ⊥
+some_number ShortSheet h = omega arith
+some_number OtherVersion h = omega arith
+some_number NoSlots h = omega arith
+some_number Malformed h = omega arith
+some_number NoCapacity h = omega arith
+some_number ManyBits h = omega arith
+some_number ManyPlaces h = omega arith
+some_number NoBits h = omega arith
+some_number LateFrame h = omega arith
+some_number Missing h = omega arith
+some_number WrongLength h = omega arith
+some_number (BadValue at) h = omega arith
+some_number BadUplink h = omega arith
+some_number BadSubframe h = omega arith
 
 pub write_zero : (sh : Sheet) (n : ℕ) → Writable sh n → write_number sh n ≡ 0
 write_zero sh n w = buffer-number sh n w.fields ∙ ap (λ (b : Bool). cond (not b) 11 0) (eq-eqb n (bytes_needed sh) w.exact)

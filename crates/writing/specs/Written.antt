@@ -1,8 +1,7 @@
 -- The bits of a sheet's fields, one field after the other; its bytes; what writing answers.
 use Rattle.std.specs.Prelude.{◌≡◌, cond, List, [], ◌∷◌, ◌++◌, ℕ, zero, suc, ◌-◌, ◌*◌, ◌/◌, ◌%◌, ◌^◌, eqb, get_or, length}
 use Rattle.laws.specs.Tables.{table, up_to}
-use Rattle.counters.specs.Lines.{given, answer_of}
-use Rattle.counters.specs.Lines.{Answer}
+use Rattle.counters.specs.Lines.{given, Answer, answer_of}
 use Rattle.bits.specs.Bits.{field, packed, bit_of}
 use Rattle.sheet.specs.Counts.{most_channels, most_slots, most_codes, most_capacities, most_paired, most_logs}
 use Rattle.sheet.specs.Layout.{head_widths, count_width, tti_width, encoded_width, ratio_width, codes_width, log_width, capacity_width}

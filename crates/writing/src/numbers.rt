@@ -1,149 +1,115 @@
-// The number that writing a sheet from its fields answers.
-ghost use Rattle.std.specs.Prelude.{◌≡◌, true, false, ◌≤◌, ◌<◌};
+// Why writing a sheet from its fields refuses it.
+ghost use Rattle.std.specs.Prelude.{◌≡◌, ◌≤◌, ◌<◌};
 ghost use Rattle.laws.specs.Sums.{any_to};
+ghost use Rattle.counters.specs.Refusals.{Refuses};
 ghost use Rattle.sheet.specs.Counts.{most_channels, most_slots};
-ghost use Rattle.writing.specs.Numbers.{channel_outside, slot_outside, flag_outside, field_outside, field_number, write_number};
+ghost use Rattle.writing.specs.Numbers.{channel_outside, slot_outside, flag_outside, field_outside, field_lines, write_lines};
 
+use counters::refusal::Refusal;
+use sheet::Sheet;
 use sheet::counts::{CHANNELS, CODES, MOST_CAPACITY, MOST_ENCODED, MOST_RATIO, MOST_TTI, SLOTS};
-use sheet::reading::load_number;
-use sheet::sizes::bytes_needed;
-use sheet::{Sheet, count};
 
 // Whether TTI, E or RM of channel i is outside its range.
-fn channel_outside(fields: Sheet, i: usize) -> bool
+fn channel_outside(fields: &Sheet, i: usize) -> bool
     requires { i < most_channels }
-    ensures { result ≡ channel_outside fields i }
+    ensures { result ≡ channel_outside fields.now i }
 {
-    if MOST_TTI < fields.tti[i] {
-        return true;
-    }
-    if MOST_ENCODED < fields.e[i] {
-        return true;
-    }
-    if fields.rm[i] < 1 {
-        return true;
-    }
-    if MOST_RATIO < fields.rm[i] {
-        return true;
-    }
-    false
+    MOST_TTI < fields.tti[i]
+        || MOST_ENCODED < fields.e[i]
+        || fields.rm[i] < 1
+        || MOST_RATIO < fields.rm[i]
 }
 
-fn channels_outside(fields: Sheet) -> bool
-    requires { fields.channels ≤ most_channels }
-    ensures { result ≡ any_to (channel_outside fields) fields.channels }
+#[tactic(auto, using(laws::proofs::SumLaws::any_more, laws::proofs::SumLaws::any_hit), unfolding(laws::specs::Sums::any_to))]
+fn channels_outside(fields: &Sheet) -> bool
+    requires { fields.now.channels ≤ most_channels }
+    ensures { result ≡ any_to (channel_outside fields.now) fields.now.channels }
 {
-    let n = count(fields.channels);
-    let mut i: usize = 0;
-    while i < n {
+    for i in 0..usize::from(fields.channels) {
         if channel_outside(fields, i) {
             return true;
         }
-        i += 1;
     }
     false
 }
 
 // Whether P or a capacity of slot t is outside its range.
-fn slot_outside(fields: Sheet, t: usize) -> bool
+#[tactic(auto, using(laws::proofs::SumLaws::any_more, laws::proofs::SumLaws::any_hit), unfolding(laws::specs::Sums::any_to))]
+fn slot_outside(fields: &Sheet, t: usize) -> bool
     requires { t < most_slots }
-    ensures { result ≡ slot_outside fields t }
+    ensures { result ≡ slot_outside fields.now t }
 {
-    let n = count(fields.phchs[t]);
-    if n < 1 {
+    let n = usize::from(fields.phchs[t]);
+    if n < 1 || CODES < n {
         return true;
     }
-    if CODES < n {
-        return true;
-    }
-    let mut p: usize = 0;
-    while p < n {
+    for p in 0..n {
         let m = CODES * t + p;
         if MOST_CAPACITY < fields.caps[m] {
             return true;
         }
-        p += 1;
     }
     false
 }
 
-fn slots_outside(fields: Sheet) -> bool
-    requires { fields.slots ≤ most_slots }
-    ensures { result ≡ any_to (slot_outside fields) fields.slots }
+#[tactic(auto, using(laws::proofs::SumLaws::any_more, laws::proofs::SumLaws::any_hit), unfolding(laws::specs::Sums::any_to))]
+fn slots_outside(fields: &Sheet) -> bool
+    requires { fields.now.slots ≤ most_slots }
+    ensures { result ≡ any_to (slot_outside fields.now) fields.now.slots }
 {
-    let n = count(fields.slots);
-    let mut t: usize = 0;
-    while t < n {
+    for t in 0..usize::from(fields.slots) {
         if slot_outside(fields, t) {
             return true;
         }
-        t += 1;
     }
     false
 }
 
 // Whether a field of one bit is over 1.
-fn flag_outside(fields: Sheet) -> bool
-    ensures { result ≡ flag_outside fields }
+fn flag_outside(fields: &Sheet) -> bool
+    ensures { result ≡ flag_outside fields.now }
 {
-    if 1 < fields.mode {
-        return true;
-    }
-    if 1 < fields.uplink {
-        return true;
-    }
-    1 < fields.lcr
+    1 < fields.mode || 1 < fields.uplink || 1 < fields.lcr
 }
 
 // Whether a field is outside its range, and none of 2, 3, 5, 13 and 14 names it.
-fn field_outside(fields: Sheet) -> bool
-    ensures { result ≡ field_outside fields }
+fn field_outside(fields: &Sheet) -> bool
+    ensures { result ≡ field_outside fields.now }
 {
-    if flag_outside(fields) {
-        return true;
-    }
-    let n = count(fields.channels);
-    if n < 1 {
-        return true;
-    }
-    if CHANNELS < n {
-        return true;
-    }
-    if SLOTS < count(fields.slots) {
-        return true;
-    }
-    if channels_outside(fields) {
-        return true;
-    }
-    slots_outside(fields)
+    let n = usize::from(fields.channels);
+    flag_outside(fields)
+        || n < 1
+        || CHANNELS < n
+        || SLOTS < usize::from(fields.slots)
+        || channels_outside(fields)
+        || slots_outside(fields)
 }
 
-// The number of the fields alone.
-pub fn field_number(fields: Sheet) -> u32
-    ensures { result ≡ field_number fields }
+// The lines of the fields alone.
+#[tactic(auto, using(crate::proofs::RangeLaws::ranged_of))]
+pub fn check_fields(fields: &Sheet) -> Result<(), Refusal>
+    ensures { Refuses (field_lines fields.now) result }
 {
     if fields.version != 1 {
-        return 2;
+        return Err(Refusal::OtherVersion);
     }
     if fields.slots == 0 {
-        return 3;
+        return Err(Refusal::NoSlots);
     }
     if field_outside(fields) {
-        return 4;
+        return Err(Refusal::Malformed);
     }
-    load_number(fields)
+    fields.check_load()?;
+    Ok(())
 }
 
-// The number of writing into a buffer of n bytes.
-pub fn write_number(fields: Sheet, n: usize) -> u32
-    ensures { result ≡ write_number fields n }
+// The lines of writing into a buffer of n bytes.
+pub fn check_write(fields: &Sheet, n: usize) -> Result<(), Refusal>
+    ensures { Refuses (write_lines fields.now n) result }
 {
-    let number = field_number(fields);
-    if number != 0 {
-        return number;
+    check_fields(fields)?;
+    if n != fields.bytes_needed() {
+        return Err(Refusal::WrongLength);
     }
-    if n != bytes_needed(fields) {
-        return 11;
-    }
-    0
+    Ok(())
 }

@@ -1,6 +1,6 @@
 use mathlib.Core.Path.{◌≡◌}
 use mathlib.Core.Bool.{false}
-use Prim.Native.Nat.{◌-◌, ◌≤◌}
+use Prim.Native.Nat.{◌≤◌}
 use lib.Dec.{ltb}
 use Rattle.laws.specs.Sums.{any_to}
 use Rattle.sheet.specs.Counts.{most_capacity}
@@ -9,6 +9,3 @@ use Rattle.writing.proofs.numbers.slot_outside.Given as goal
 
 abbrev pub invariant-loop-p : goal.invariant-loop-p
 invariant-loop-p l = (l.p ≤ l.n) × (any_to (λ k. ltb most_capacity (capacity_of l.fields l.t k)) l.p ≡ false)
-
-abbrev pub decreases-loop-p : goal.decreases-loop-p
-decreases-loop-p l = l.n - l.p

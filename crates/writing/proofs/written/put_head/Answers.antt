@@ -3,6 +3,6 @@ use Rattle.writing.proofs.written.put_head.Goals as goal
 
 pub returns : goal.returns
 returns c =
-    head_put c.args.fields _ c.requires.1 c.wide-2.ensures.0 c.wide-3.ensures.0
-    c.wide.ensures.0 c.wide-4.ensures.0 c.put_field.ensures c.put_field-2.ensures
+    head_put c.args.fields.now _ c.requires.1 c.from-2.ensures c.from-3.ensures
+    c.from.ensures c.from-4.ensures c.put_field.ensures c.put_field-2.ensures
     c.put_field-3.ensures c.put_field-4.ensures

@@ -17,10 +17,10 @@ pack-requires c =
     let a = c.args in
     let q = c.requires in
     let h = c.put_slots.ensures in
-    (omega (arith, h.long, q.1, q.2), λ i. subst (λ (x : ℕ). x < 2) (sym (h.same i)) ((slots_binary a.fields a.fields.slots).below i))
+    (omega (arith, h.long, q.1, q.2), λ i. subst (λ (x : ℕ). x < 2) (sym (h.same i)) ((slots_binary a.fields.now a.fields.now.slots).below i))
 
 pub returns : goal.returns
 returns c =
     let a = c.args in
     let h = c.put_slots.ensures in
-    c.pack.ensures ∙ packed-same _ (bit_of (sheet_bits a.fields)) _ (λ i l. h.same i) ∙ ap (packed (bit_of (sheet_bits a.fields))) c.requires.1
+    c.pack.ensures ∙ packed-same _ (bit_of (sheet_bits a.fields.now)) _ (λ i l. h.same i) ∙ ap (packed (bit_of (sheet_bits a.fields.now))) c.requires.1

@@ -16,13 +16,13 @@ pub loop-p-init : goal.loop-p-init
 loop-p-init c =
     let a = c.args in
     let q = c.requires in
-    let w = c.count-width.ensures.0 in (
+    let w = c.from-width.ensures in (
       omega arith,
       omega arith,
       omega arith,
       ap log_width w,
       omega (arith, w, q.0),
-      slot_put a.fields a.t a.start q.4 _ q.6 (omega arith) c.count-n.ensures.0 c.put_field.ensures,
+      slot_put a.fields.now a.t a.start q.4 _ q.6 (omega arith) c.from-n.ensures c.put_field.ensures,
     )
 
 pub put_field-requires-in-loop-p : goal.put_field-requires-in-loop-p
@@ -30,12 +30,12 @@ put_field-requires-in-loop-p c = (omega arith, omega (arith, c.loop-p.invariant.
 
 -- the logarithm stands
 logged : (c : After-put_field-in-loop-p)
-    → Holds c.put_field-in-loop-p.new.bs room (to_log c.args.fields c.args.t c.loop-p.p)
+    → Holds c.put_field-in-loop-p.new.bs room (to_log c.args.fields.now c.args.t c.loop-p.p)
 logged c =
     let a = c.args in
     let q = c.requires in
     let l = c.loop-p in
-    log_put a.fields a.t a.start q.4 l.at _ l.p l.invariant.1 l.invariant.3 l.bs (omega arith) l.invariant.5 c.log_at.ensures c.put_field-in-loop-p.ensures
+    log_put a.fields.now a.t a.start q.4 l.at _ l.p l.invariant.1 l.invariant.3 l.bs (omega arith) l.invariant.5 c.log_at.ensures c.put_field-in-loop-p.ensures
 
 pub put_field-requires-in-loop-p-2 : goal.put_field-requires-in-loop-p-2
 put_field-requires-in-loop-p-2 c = (omega arith, omega (arith, (logged (goal.at.put_field-requires-in-loop-p-2 c).After-put_field-in-loop-p).long))
@@ -46,11 +46,11 @@ loop-p-preserved c =
     let q = c.requires in
     let l = c.loop-p in (
       omega arith,
-      omega (arith, l.invariant.3, width_more a.fields.uplink l.p),
+      omega (arith, l.invariant.3, width_more a.fields.now.uplink l.p),
       omega arith,
       l.invariant.3,
       l.invariant.4,
-      capacity_put a.fields a.t a.start q.4 l.at _ l.p l.invariant.1 l.invariant.3 _ (omega arith) (logged (goal.at.loop-p-preserved c).After-put_field-in-loop-p) c.wide.ensures.0
+      capacity_put a.fields.now a.t a.start q.4 l.at _ l.p l.invariant.1 l.invariant.3 _ (omega arith) (logged (goal.at.loop-p-preserved c).After-put_field-in-loop-p) c.from.ensures
           c.put_field-in-loop-p-2.ensures,
     )
 
@@ -61,6 +61,6 @@ pub returns : goal.returns
 returns c =
     let a = c.args in
     let l = c.loop-p in
-    let e : l.p ≡ phchs_of a.fields a.t = omega arith in
-    subst (Holds l.bs room) (slots_more a.fields a.t)
-    (subst (λ (x : ℕ). Holds l.bs room (code_bits a.fields a.t (slots_bits a.fields a.t) x)) e l.invariant.5)
+    let e : l.p ≡ phchs_of a.fields.now a.t = omega arith in
+    subst (Holds l.bs room) (slots_more a.fields.now a.t)
+    (subst (λ (x : ℕ). Holds l.bs room (code_bits a.fields.now a.t (slots_bits a.fields.now a.t) x)) e l.invariant.5)

@@ -26,7 +26,7 @@ pub loop-t-preserved : goal.loop-t-preserved
 loop-t-preserved c =
     let a = c.args in
     let l = c.loop-t in
-    let s = sum_more (λ k. slot_width a.fields.uplink (phchs_of a.fields k)) l.t refl c.slot_width-at.ensures.0 in
+    let s = sum_more (λ k. slot_width a.fields.now.uplink (phchs_of a.fields.now k)) l.t refl c.slot_width-at.ensures.0 in
     (omega arith, omega arith, omega arith, c.put_slot.ensures)
 
 pub shape_of-bs : goal.shape_of-bs
@@ -36,5 +36,5 @@ pub returns : goal.returns
 returns c =
     let a = c.args in
     let l = c.loop-t in
-    let e : l.t ≡ a.fields.slots = omega arith in
-    subst (λ (x : ℕ). Holds l.bs room (slots_bits a.fields x)) e l.invariant.3
+    let e : l.t ≡ a.fields.now.slots = omega arith in
+    subst (λ (x : ℕ). Holds l.bs room (slots_bits a.fields.now x)) e l.invariant.3
