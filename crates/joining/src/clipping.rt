@@ -1,4 +1,5 @@
-// What a decoder takes: magnitudes up to 1,024. Both tests ask whether the value stays, so that each compiles to one instruction.
+// What a decoder takes: magnitudes up to 1,024. Both tests ask whether the value stays, so that each compiles to one instruction. f32::clamp
+// keeps a NaN, and of two equal values f32::min leaves open which it answers.
 ghost use Rattle.std.specs.Prelude.{◌≡◌};
 ghost use Rattle.joining.specs.Joining.{clipped, clipped_of};
 ghost use Rattle.joining.specs.Linked.{capped};

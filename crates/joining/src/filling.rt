@@ -31,7 +31,8 @@ fn copy_values(values: &[f32], segment: &mut [f32])
     }
 }
 
-// Four values. All are read before the first is written, so that the compiler takes the four at once.
+// Four values. All are read before the first is written, so that the compiler takes the four at once; of an array that is copied it asks first
+// whether it overlaps the segment.
 fn copy_four(values: &[f32], k: usize, segment: &mut [f32], i: usize)
     requires { (k + 3 < length values.now) × (i + 3 < length segment.old) }
     ensures { Clips values.now segment.old segment.new k i 4 }
@@ -46,7 +47,8 @@ fn copy_four(values: &[f32], k: usize, segment: &mut [f32], i: usize)
     segment[i + 3] = d;
 }
 
-// So many values, by fours. The up to three that come too much are written over by what follows.
+// So many values, by fours. The up to three that come too much are written over by what follows. With the copy of bits it shares the loop
+// alone: one for both would take what is done to a value as a closure.
 fn copy_run(values: &[f32], k: usize, segment: &mut [f32], i: usize, count: usize)
     requires { (k + count + 3 ≤ length values.now) × (i + count + 3 ≤ length segment.old) }
     ensures { Clips values.now segment.old segment.new k i count }
@@ -72,8 +74,7 @@ fn fill(values: &[f32], segment: &mut [f32], start: usize, d: Change)
     let mut i: usize = 0;
     while i < segment.len() {
         let t = hear_next(values, k, d.less, p, q, e);
-        let h = t.heard;
-        segment[i] = clip(value(h));
+        segment[i] = clip(value(t.heard));
         e = t.e;
         k = t.next;
         i += 1;

@@ -19,8 +19,7 @@ pub fn hear_at(values: &[f32], from: usize, copies: usize) -> Heard
         return Heard::Nothing;
     }
     let t = hear_sent(values, from, 1, copies - 1, 1);
-    let h = t.heard;
-    clip_heard(h)
+    clip_heard(t.heard)
 }
 
 // How many of the v values sent of a segment of n bits belong to the bits before `bit`, without a walk.

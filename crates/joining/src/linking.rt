@@ -17,7 +17,7 @@ pub struct Link {
     pub punctured: usize,
 }
 
-// The larger of x and its opposite. 0.0 - x is +0.0 of either zero, as -x is not.
+// The larger of x and its opposite, by a subtraction and one test where f32::abs has two. 0.0 - x is +0.0 of either zero, as -x is not.
 fn magnitude(x: f32) -> f32
     ensures { result ≡ magnitude_of x }
 {
@@ -26,7 +26,7 @@ fn magnitude(x: f32) -> f32
 }
 
 impl Link {
-    // Of no bit.
+    // Of no bit: that is what it promises, as a derived default would not.
     pub fn new() -> Link
         ensures { result ≡ link_of [] }
     {
@@ -90,7 +90,8 @@ impl Link {
     }
 }
 
-// Four records that start from the same one; the bits are dealt out to them, so that the compiler can treat four bits at once.
+// Four records that start from the same one; the bits are dealt out to them, so that the compiler can treat four bits at once. They have names,
+// as each is written out.
 #[derive(Clone, Copy)]
 struct Lanes {
     a: Link,
@@ -116,31 +117,23 @@ impl Lanes {
         requires { (before + 3 < 2 ^ 64) × (self.a.punctured + 1 < 2 ^ 64) × (self.b.punctured + 1 < 2 ^ 64) × (self.c.punctured + 1 < 2 ^ 64) × (self.d.punctured + 1 < 2 ^ 64) }
         ensures { (result.a ≡ with_heard self.a before (clipped_of f)) × (result.b ≡ with_heard self.b (before + 1) (clipped_of g)) × (result.c ≡ with_heard self.c (before + 2) (clipped_of h)) × (result.d ≡ with_heard self.d (before + 3) (clipped_of j)) }
     {
-        let a = self.a;
-        let b = self.b;
-        let c = self.c;
-        let d = self.d;
         Lanes {
-            a: a.with(f, before),
-            b: b.with(g, before + 1),
-            c: c.with(h, before + 2),
-            d: d.with(j, before + 3),
+            a: self.a.with(f, before),
+            b: self.b.with(g, before + 1),
+            c: self.c.with(h, before + 2),
+            d: self.d.with(j, before + 3),
         }
     }
 
     fn whole(self) -> Link
         ensures { result ≡ both_of (both_of self.a self.b) (both_of self.c self.d) }
     {
-        let a = self.a;
-        let b = self.b;
-        let c = self.c;
-        let d = self.d;
-        let ab = a.together(b);
-        ab.together(c.together(d))
+        let ab = self.a.together(self.b);
+        ab.together(self.c.together(self.d))
     }
 }
 
-// Each bit was sent, and takes its next copies. The first starts the lanes, and what four leave over comes last.
+// Each bit was sent, and takes its next copies. The first starts the lanes, and what four leave over comes last, from where they end.
 fn link_sent(values: &[f32], n: usize, start: usize, m: usize) -> Link
     requires { Segment false m n (length values.now) start × (0 < n → Stands false (2 * n) (2 * m) start) }
     ensures { result ≡ link_of (heard_of (signed_by false m) n start values.now) }
@@ -151,19 +144,14 @@ fn link_sent(values: &[f32], n: usize, start: usize, m: usize) -> Link
     let p = 2 * n;
     let q = 2 * m;
     let first = hear_sent(values, 0, p, q, start);
-    let h = first.heard;
-    let mut w = Lanes::new(Link::new().with(h, 0));
+    let mut w = Lanes::new(Link::new().with(first.heard, 0));
     let mut e = first.e;
     let mut k = first.next;
     let mut i: usize = 1;
     let last = n.saturating_sub(3);
     while i < last {
         let s = hear_four(values, k, p, q, e);
-        let f = s.f;
-        let g = s.g;
-        let h = s.h;
-        let j = s.j;
-        w = w.with(f, g, h, j, i);
+        w = w.with(s.f, s.g, s.h, s.j, i);
         e = s.e;
         k = s.next;
         i += 4;
@@ -171,8 +159,7 @@ fn link_sent(values: &[f32], n: usize, start: usize, m: usize) -> Link
     let mut l = w.whole();
     for bit in i..n {
         let t = hear_sent(values, k, p, q, e);
-        let h = t.heard;
-        l = l.with(h, bit);
+        l = l.with(t.heard, bit);
         e = t.e;
         k = t.next;
     }

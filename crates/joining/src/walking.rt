@@ -25,7 +25,7 @@ pub fn hear_sent(values: &[f32], k: usize, p: usize, q: usize, start: usize) -> 
     if q < start {
         return Step {
             heard: Heard::Once(sum),
-            next: next,
+            next,
             e: start - q,
         };
     }
@@ -37,7 +37,7 @@ pub fn hear_sent(values: &[f32], k: usize, p: usize, q: usize, start: usize) -> 
     }
     Step {
         heard: Heard::Joined(sum, next - k),
-        next: next,
+        next,
         e: e - q,
     }
 }
@@ -73,15 +73,11 @@ pub fn hear_four(values: &[f32], k: usize, p: usize, q: usize, start: usize) -> 
     let t = hear_sent(values, s.next, p, q, s.e);
     let u = hear_sent(values, t.next, p, q, t.e);
     let v = hear_sent(values, u.next, p, q, u.e);
-    let f = s.heard;
-    let g = t.heard;
-    let h = u.heard;
-    let j = v.heard;
     Four {
-        f: f,
-        g: g,
-        h: h,
-        j: j,
+        f: s.heard,
+        g: t.heard,
+        h: u.heard,
+        j: v.heard,
         next: v.next,
         e: v.e,
     }

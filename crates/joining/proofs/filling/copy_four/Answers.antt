@@ -2,7 +2,7 @@ use mathlib.Core.Path.{◌≡◌}
 use mathlib.Core.List.{List}
 use Prim.Native.Nat.{ℕ, ◌+◌, ◌<◌}
 use native.Mathlib.Omega.{arith}
-use lib.ListN.{length, get_or, set, length-set}
+use lib.ListN.{length, get_or, set}
 use lib.Ieee.{Float, nan}
 use Rattle.joining.specs.Joining.{clipped, Clips}
 use Rattle.laws.proofs.WrittenLaws.{write_none, write_one}
@@ -15,12 +15,6 @@ four vs l k i {a} h qa qb qc qd =
     let i0 : i + 0 ≡ i = omega arith in
     let w = write_one (write_none nan (λ j. clipped (get_or vs (k + j) nan)) l i) {x = a} (omega arith) (rw k0 qa) in
     write_one (write_one (write_one (rw i0 at w) (omega arith) qb) (omega arith) qc) (omega arith) qd
-
-pub bounds-segment-i-2 : goal.bounds-segment-i-2
-bounds-segment-i-2 c = simp length-set (omega arith)
-
-pub bounds-segment-i-3 : goal.bounds-segment-i-3
-bounds-segment-i-3 c = simp length-set (omega arith)
 
 pub returns : goal.returns
 returns c =

@@ -20,8 +20,5 @@ loop-done-preserved c =
     let q : (j : ℕ) → a.k + l.done + j ≡ a.k + (l.done + j) = λ j. omega arith in
     (omega arith, write_on l.invariant.1 c.copy_four.ensures (λ j. ap (λ (x : ℕ). clipped (get_or a.values.now x nan)) (q j)))
 
-pub shape_of-segment : goal.shape_of-segment
-shape_of-segment c = c.loop-done.invariant.1.long
-
 pub returns : goal.returns
 returns c = write_part c.loop-done.invariant.1 (omega arith)

@@ -6,12 +6,6 @@ use Rattle.joining.proofs.FillLaws.{fill_start, fill_turn, fill_once, fill_run, 
 use Rattle.joining.proofs.PlaceLaws.{place-room}
 use Rattle.joining.proofs.filling.fill.Goals as goal
 
-pub overflow_mul-p : goal.overflow_mul-p
-overflow_mul-p c = omega (arith, c.requires.0.few)
-
-pub overflow_mul-q : goal.overflow_mul-q
-overflow_mul-q c = omega (arith, c.requires.0.most)
-
 pub run_of-run-requires : goal.run_of-run-requires
 run_of-run-requires c = let s = c.requires.0 in (omega (arith, s.most), omega (arith, s.few, s.most))
 
@@ -84,9 +78,6 @@ pub loop-i-preserved : goal.loop-i-preserved
 loop-i-preserved c =
     let l = c.loop-i in
     fill_turn l.invariant (omega arith) c.hear_next-t.ensures c.value.ensures c.clip.ensures
-
-pub shape_of-segment : goal.shape_of-segment
-shape_of-segment c = c.loop-i.invariant.todo.long
 
 pub returns : goal.returns
 returns c = let l = c.loop-i in fill_end l.invariant (omega arith)

@@ -67,12 +67,6 @@ returns-then-n-eq0 c =
     c.new.ensures
     ∙ sym (ap link_of (heard_by false a.m a.n a.start a.values.now (λ q. absurd (false≢true q)) ∙ ap (λ (n : ℕ). map join_of (shared_from false (2 * a.n) (2 * a.m) a.start n a.values.now)) c.if-n-eq0.true))
 
-pub overflow_mul-p : goal.overflow_mul-p
-overflow_mul-p c = omega (arith, c.requires.0.few)
-
-pub overflow_mul-q : goal.overflow_mul-q
-overflow_mul-q c = omega (arith, c.requires.0.most)
-
 pub hear_sent-first-requires : goal.hear_sent-first-requires
 hear_sent-first-requires c =
     let a = c.args in

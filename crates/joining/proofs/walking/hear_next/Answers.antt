@@ -18,9 +18,6 @@ returns-then-q-start c =
     let a = c.args in
     once_heard a.less a.p a.q a.start a.k a.values.now (omega arith) c.requires.2
 
-pub overflow_sub-result-then-less : goal.overflow_sub-result-then-less
-overflow_sub-result-then-less c = omega (arith, c.requires.0.most c.if-less.true)
-
 pub returns-then-less : goal.returns-then-less
 returns-then-less c =
     let a = c.args in
