@@ -59,7 +59,8 @@ fn copy(src: &[u8], from: usize, step: usize, dst: &mut [u8])
     }
 }
 
-// d < 0, m being |d|: e falls by 2m with each bit, and where it would not stay above 0 the bit is dropped and e grows by 2N.
+// d < 0, m being |d|: e falls by 2m with each bit, and where it would not stay above 0 the bit is dropped and e grows by 2N. What this
+// walk and that of repetition do with a bit has nothing in common: one loop for both would be these two, side by side in an `if`.
 fn puncture(src: &[u8], n: usize, from: usize, step: usize, dst: &mut [u8], start: usize, m: usize)
     requires { Segment true m n (length dst.old) start × Strided step n (length src.now) × (0 < m) }
     ensures { dst.new ≡ matched as_is (signed_by true m) n start (every 0 from step n src.now) }

@@ -28,7 +28,8 @@ fn copy_eight(src: &[u8], j: usize, dst: &mut [u8], k: usize)
     dst[k..k + 8].copy_from_slice(&src[j..j + 8]);
 }
 
-// So many bits, by eights: up to seven more are written, over which others are written later.
+// So many bits, by eights: up to seven more are written, over which others are written later. A run copied by its own length would be a loop
+// over single bits, as few as they are.
 fn copy_run(src: &[u8], j: usize, dst: &mut [u8], k: usize, count: usize)
     requires { (j + count + 7 ≤ length src.now) × (k + count + 7 ≤ length dst.old) }
     ensures { Copied src.now dst.old dst.new j k count }

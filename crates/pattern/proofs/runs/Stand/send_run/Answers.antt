@@ -13,29 +13,8 @@ returns-then-run-lt3 c = let a = c.args in ran_none a.q a.src.now a.dst.now a.se
 pub copy_run-requires : goal.copy_run-requires
 copy_run-requires c = (omega (arith, leb-false), omega (arith, leb-false))
 
-pub overflow_sub-low : goal.overflow_sub-low
-overflow_sub-low c = omega (arith, leb-false)
-
-pub overflow_add-to : goal.overflow_add-to
-overflow_add-to c = omega (arith, leb-false)
-
-pub overflow_add-at : goal.overflow_add-at
-overflow_add-at c = omega (arith, leb-false)
-
 pub returns-then-low-q : goal.returns-then-low-q
 returns-then-low-q c = ran_copied c.copy_run.ensures (omega (arith, leb-false)) (omega (arith, leb-false))
-
-pub bounds-src-at : goal.bounds-src-at
-bounds-src-at c = omega (arith, leb-false)
-
-pub bounds-dst-to : goal.bounds-dst-to
-bounds-dst-to c = omega (arith, leb-false, c.copy_run.ensures.long)
-
-pub overflow_add-result : goal.overflow_add-result
-overflow_add-result c = omega (arith, leb-false)
-
-pub overflow_add-result-2 : goal.overflow_add-result-2
-overflow_add-result-2 c = omega (arith, leb-false)
 
 pub returns : goal.returns
 returns c = ran_one (ran_copied c.copy_run.ensures (omega (arith, leb-false)) (omega (arith, leb-false))) (omega (arith, leb-false)) (omega (arith, leb-false)) (omega (arith, leb-false))
