@@ -39,9 +39,6 @@ module _ {K t : ℕ} {begins : List ℕ} (b : Begins K begins t) where
   begins-next {h} {x} l e q =
       record { some = omega arith; filling = filling_next b.filling x (omega arith) (rw (add-one t) (omega (arith, q, e, begins-at, read_suc K t))) }
 
-  pub begins-all : 30 ≤ t → Turned K begins
-  begins-all l = record { long = b.filling.long; each = λ s h. b.filling.each s h (omega arith) }
-
 -- past a turn there is another
 pub turn_more : {K k t : ℕ} {begins : List ℕ} → Turned K begins → t < 30 → k < K → get_or begins (t + 1) 0 ≤ k → (t + 1 < 30) × (read_before K (t + 1) ≤ k)
 turn_more {K} {k} {t} b h l m =

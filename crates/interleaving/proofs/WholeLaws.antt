@@ -93,15 +93,6 @@ module _ {A : Type 0} {z : A} {K : ℕ} {ys old : List A} {c begin : ℕ} where
           copied = rw r at (write_on g.copied w (λ i. let y : k + i ≡ begin + (k - begin + i) = omega (arith, g.from) in ap (λ (m : ℕ). get_or ys m z) y));
         }
 
-    pub going_ends : K ≤ j → ColumnPassed z ys old list K c begin k
-    going_ends h =
-        let q : k - begin ≡ height 30 K c = omega (arith, g.next, g.from, g.to) in
-        record { behind = omega (arith, q, g.from); copied = rw q at g.copied }
-
-    -- four are left
-    pub going_four : j + 90 < K → k + 3 < K
-    going_four h = omega (arith, g.next, g.from, g.to, g.down.inside)
-
     module _ (h : j < K) where
       inside : k < begin + height 30 K c
       inside = omega (arith, g.next, g.from, g.to)

@@ -1,5 +1,6 @@
 // Step 8 of a whole list at once: one column after the other, where nothing has to be looked for. Four elements are copied at a time, and the loops ask
-// whether the column goes on: of a loop that knows its height the compiler makes vectors, for which most columns are too short.
+// whether the column goes on, by `while`: of a loop that knows its height, as a `for` does, the compiler makes vectors, for which most columns are
+// too short.
 ghost use Rattle.std.specs.Prelude.{◌≡◌, ◌≤◌, length};
 ghost use Rattle.sheet.specs.Counts.{most_bits};
 ghost use Rattle.interleaving.specs.Second.{second_interleaved};

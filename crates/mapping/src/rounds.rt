@@ -55,7 +55,8 @@ fn put_next(bits: &[u8], from: usize, h: Hands, frame: &mut [u8]) -> Hands
     }
 }
 
-// Puts element c of the bits and every 30th behind it. Of the capacities nothing is read here: the contract needs them.
+// Puts element c of the bits and every 30th behind it. Of the capacities nothing is read here: the contract needs them. A `for` knows how many there
+// are, of which the compiler makes vectors (docs/SPEED.md).
 fn put_ones(bits: &[u8], caps: &[u16], c: usize, h: Hands, frame: &mut [u8]) -> Hands
     requires { Facing caps.now (length bits.now) (length frame.old) c h }
     ensures { ColumnCarried caps.now bits.now c h frame.old result frame.new }

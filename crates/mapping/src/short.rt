@@ -68,7 +68,7 @@ fn laid<D: Direction>(from: &[D::Item], caps: &[u16], to: &mut [D::Item])
     }
 }
 
-// Steps 8 and 9, the slot's bits in a room that is lent.
+// Steps 8 and 9, the slot's bits in a room that is lent. Undone they come in the other order, so that one function for both ways is no plainer.
 fn map_between(
     bits: &[u8],
     turns: &Turns,
