@@ -2,21 +2,11 @@ use native.Mathlib.Omega.{arith}
 use mathlib.Core.Path.{sym, ap, ◌∙◌}
 use mathlib.Core.List.{List}
 use Prim.Native.Nat.{ℕ, ◌<◌}
-use native.Mathlib.Nat.{mul-le-mul_right}
 use lib.ListN.{length, get_or}
-use Rattle.sheet.specs.Sizes.{frames_in}
 use Rattle.orders.specs.Orders.{column_at}
-use Rattle.interleaving.proofs.FinishWalk.{starts, resized, enters, long, reads_in, put, leaves, ends}
+use Rattle.interleaving.proofs.FinishWalk.{resized, enters, long, reads_in, put, leaves, ends}
 use Rattle.interleaving.proofs.first.finish.Goals.{In-loop-k, else-loop-k-test, then-loop-k-test+else-f-k-end}
 use Rattle.interleaving.proofs.first.finish.Goals as goal
-
-pub loop-s-init : goal.loop-s-init
-loop-s-init c = starts c.args.part.now c.args.tti c.args.n c.args.out.now c.requires
-
-pub overflow_mul-i : goal.overflow_mul-i
-overflow_mul-i c =
-    let l = c.loop-s in
-    omega (arith, c.requires.whole, mul-le-mul_right {m = l.s} {n = frames_in c.args.tti} c.args.n (omega (arith, c.frames-f.ensures.0)))
 
 pub loop-k-init : goal.loop-k-init
 unfolding column_at
@@ -29,17 +19,8 @@ loop-k-init c =
 inside : (c : In-loop-k) → c.loop-k.i < length c.args.part.now
 inside c = let l = c.loop-k in reads_in l.invariant (omega (arith, long l.invariant))
 
-pub offset_bounds-part-i : goal.offset_bounds-part-i
-offset_bounds-part-i c = omega (arith, inside (goal.at.offset_bounds-part-i c).In-loop-k)
-
 pub bounds-part-i : goal.bounds-part-i
 bounds-part-i c = inside (goal.at.bounds-part-i c).In-loop-k
-
-pub overflow_add-i : goal.overflow_add-i
-overflow_add-i c = omega (arith, inside (goal.at.overflow_add-i c).In-loop-k)
-
-pub loop-k-smaller : goal.loop-k-smaller
-loop-k-smaller c = omega (arith, long c.loop-k.invariant, c.frames-f.ensures.1)
 
 pub loop-k-preserved : goal.loop-k-preserved
 loop-k-preserved c =
@@ -55,9 +36,6 @@ loop-s-preserved c =
       | then-loop-k-test+else-f-k-end w ↦
           rw w.out-is (resized (leaves (put g (omega (arith, long g)) c.frames-f.ensures.0) (omega (arith, long g))) e)
     ]
-
-pub shape_of-out : goal.shape_of-out
-shape_of-out c = c.loop-s.invariant.filling.long
 
 pub returns : goal.returns
 returns c =

@@ -19,39 +19,18 @@ found c =
     let e = passing_ends c.loop-h.invariant c.requires.0 (omega arith) in
     (e, omega (arith, e, source_below c.args.n c.args.j c.requires.0))
 
-pub column_at-c-requires : goal.column_at-c-requires
-column_at-c-requires c = (c.columns-order.ensures, omega arith)
-
-pub height_of-h-requires : goal.height_of-h-requires
-height_of-h-requires c = (c.requires.1, c.column_at-c.ensures.1)
-
 pub loop-h-init : goal.loop-h-init
 loop-h-init c =
     let a = c.args in
     passing_starts a.n a.j c.column_at-c.ensures.0 c.height_of-h.ensures
 
-pub overflow_add-t : goal.overflow_add-t
-overflow_add-t c = omega (arith, more (goal.at.overflow_add-t c).In-loop-h)
-
 pub column_at-c-requires-in-loop-h : goal.column_at-c-requires-in-loop-h
 column_at-c-requires-in-loop-h c = (c.columns-order.ensures, more (goal.at.column_at-c-requires-in-loop-h c).In-loop-h)
-
-pub height_of-h-requires-in-loop-h : goal.height_of-h-requires-in-loop-h
-height_of-h-requires-in-loop-h c = (c.requires.1, c.column_at-c-in-loop-h.ensures.1)
-
-pub loop-h-smaller : goal.loop-h-smaller
-loop-h-smaller c = omega (arith, more (goal.at.loop-h-smaller c).In-loop-h)
 
 pub loop-h-preserved : goal.loop-h-preserved
 loop-h-preserved c =
     passing_next c.loop-h.invariant c.requires.0 (omega arith) c.column_at-c-in-loop-h.ensures.0
     c.height_of-h-in-loop-h.ensures
-
-pub overflow_mul-result : goal.overflow_mul-result
-overflow_mul-result c = omega (arith, (found (goal.at.overflow_mul-result c).After-loop-h).1)
-
-pub overflow_add-result : goal.overflow_add-result
-overflow_add-result c = omega (arith, (found (goal.at.overflow_add-result c).After-loop-h).1)
 
 pub returns : goal.returns
 returns c = found (goal.at.returns c).After-loop-h

@@ -17,9 +17,6 @@ high : (c : After-height_by)
     → c.height_by.result ≡ height 30 c.args.n (get_or order c.loop-t.t 0)
 high c = omega (arith, c.height_by.ensures, c.column_at.ensures)
 
-pub height_by-requires : goal.height_by-requires
-height_by-requires c = (omega (arith, c.requires), omega arith, c.column_at.ensures.1)
-
 pub overflow_add-begins : goal.overflow_add-begins
 overflow_add-begins c =
     let l = c.loop-t in

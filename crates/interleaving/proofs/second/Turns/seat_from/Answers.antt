@@ -1,12 +1,8 @@
-use native.Mathlib.Omega.{arith}
 use mathlib.Core.Path.{refl, ap}
 use Prim.Native.Nat.{ℕ, ◌+◌, ◌*◌, ◌-◌}
 use lib.ListN.{get_or}
 use Rattle.interleaving.proofs.SecondWalk.{seated}
 use Rattle.interleaving.proofs.second.Turns.seat_from.Goals as goal
-
-pub overflow_sub-result : goal.overflow_sub-result
-overflow_sub-result c = let t = c.turn_from-turn in omega (arith, c.args.self.now.begun.each t.result (omega (arith, t.ensures.0)), t.ensures.1)
 
 pub returns : goal.returns
 returns c =
