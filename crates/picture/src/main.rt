@@ -4,14 +4,15 @@
 #![tactic(auto)]
 
 use counters::{FrameNumber, PhchNumber};
-use drawing::layout::{bottom, say_frame};
-use drawing::scale::scale_of;
-use drawing::text::{ROOM, flush, pair, say};
+use drawing::layout::Drawing;
+use drawing::scale::Scale;
 use legend::{FIRST, LINE, say_channels, say_marks, say_title};
 use refusal::say_refusal;
 use sheet::counts::LONGEST_FORM;
 use sheet::{Sheet, wide};
+use std::alloc::Global;
 use std::io;
+use std::io::{BufWriter, Write};
 use style::say_style;
 use ummervia::{name, sheet_read, sizes};
 
@@ -20,54 +21,66 @@ mod legend;
 mod refusal;
 mod style;
 
-fn open_picture(rt: &impl Print, out: &mut [u8; ROOM], height: u64) -> io::Result<usize> {
-    let a = say(rt, out, 0, b"<svg xmlns=\"http://www.w3.org/2000/svg\"")?;
-    let b = pair(rt, out, a, b" width=\"1120\" height=\"", height)?;
-    let c = pair(rt, out, b, b"\" viewBox=\"0 0 1120 ", height)?;
-    say(
-        rt,
+fn open_picture<W: Write>(out: &mut W, height: u64) -> io::Result<()> {
+    write!(
         out,
-        c,
-        b"\">\n<rect width=\"100%\" height=\"100%\" fill=\"#fff\"/>\n",
-    )
+        "<svg xmlns=\"http://www.w3.org/2000/svg\" width=\"1120\" height=\"{height}\""
+    )?;
+    writeln!(out, " viewBox=\"0 0 1120 {height}\">")?;
+    writeln!(out, "<rect width=\"100%\" height=\"100%\" fill=\"#fff\"/>")
 }
 
-fn draw(
-    rt: &impl Print,
-    out: &mut [u8; ROOM],
+// The fields of the sheet and the places of its frame, or the number that refuses the sheet or the frame number. The first place is in every
+// frame: its name is refused as any other's of the sheet and the frame number is.
+fn read(sheet: &[u8], frame: FrameNumber) -> Result<(Sheet, u64), u32> {
+    let first = name(sheet, frame, 1, 1, PhchNumber(1), 1);
+    if first.number == 0 {
+        Ok((sheet_read(sheet).sheet, sizes(sheet).capacity))
+    } else {
+        Err(first.number)
+    }
+}
+
+fn draw<W: Write>(out: &mut W, drawing: &Drawing<'_>, capacity: u64) -> io::Result<()> {
+    let top = FIRST + LINE * wide(drawing.fields.channels);
+    open_picture(out, drawing.bottom(top) + 10)?;
+    say_style(out, drawing.scale)?;
+    say_title(out, drawing, capacity)?;
+    say_marks(out)?;
+    say_channels(out, drawing.sheet)?;
+    drawing.say(out, top)
+}
+
+fn picture<W: Write>(
+    out: &mut W,
+    alloc: Global,
     sheet: &[u8],
     frame: FrameNumber,
-    fields: Sheet,
-) -> io::Result<usize> {
-    let sizes = sizes(sheet);
-    let scale = scale_of(sizes.capacity);
-    let top = FIRST + LINE * wide(fields.channels);
-    let a = open_picture(rt, out, bottom(scale, fields, top) + 10)?;
-    let b = say_style(rt, out, a, scale)?;
-    let c = say_title(rt, out, b, frame, fields, sizes)?;
-    let d = say_marks(rt, out, c)?;
-    let e = say_channels(rt, out, d, sheet)?;
-    say_frame(rt, out, e, sheet, frame, fields, scale, top)
-}
-
-// The first place is in every frame: its name is refused as any other's of the sheet and the frame number is.
-fn picture(rt: &impl Print, sheet: &[u8], frame: FrameNumber) -> io::Result<()> {
-    let mut out = [0u8; ROOM];
-    let first = name(sheet, frame, 1, 1, PhchNumber(1), 1);
-    let k = if first.number == 0 {
-        let read = sheet_read(sheet);
-        draw(rt, &mut out, sheet, frame, read.sheet)?
-    } else {
-        let a = open_picture(rt, &mut out, 50)?;
-        say_refusal(rt, &mut out, a, first.number)?
-    };
-    let end = say(rt, &mut out, k, b"</svg>\n")?;
-    flush(rt, &out, end)
+) -> io::Result<()> {
+    match read(sheet, frame) {
+        Ok((fields, capacity)) => {
+            let drawing = Drawing {
+                alloc,
+                sheet,
+                fields: &fields,
+                frame,
+                scale: Scale::of(capacity),
+            };
+            draw(out, &drawing, capacity)?;
+        }
+        Err(number) => {
+            open_picture(out, 50)?;
+            say_refusal(out, number)?;
+        }
+    }
+    writeln!(out, "</svg>")
 }
 
 fn main(rt: HostRuntime) -> io::Result<()> {
     let frame = argument::asked(&rt);
     let mut buffer = [0u8; LONGEST_FORM + 1];
     let n = input::read_full(&rt, &mut buffer)?;
-    picture(&rt, &buffer[..n], frame)
+    let mut out = BufWriter::new(rt.alloc(), io::writer(&rt))?;
+    picture(&mut out, rt.alloc(), &buffer[..n], frame)?;
+    out.flush()
 }
