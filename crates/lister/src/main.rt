@@ -8,7 +8,5 @@ fn main(rt: HostRuntime) -> io::Result<()> {
     let mut buffer = [0u8; LONGEST_FORM + 1];
     let n = input::read_full(&rt, &mut buffer)?;
     let listing = listing::list_sheet(&buffer[..n]);
-    let text = listing.bytes;
-    let k = listing.len;
-    rt.write_all(&text[..k])
+    rt.write_all(&listing.bytes[..listing.len])
 }
