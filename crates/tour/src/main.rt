@@ -6,7 +6,6 @@ use crate::home::say_home;
 use crate::saying::{say_contents, say_frame, say_sheet};
 use crate::stops::{EXAMPLE, Stop, THREE_CHANNELS, TWO_CODES, TWO_SUBFRAMES};
 use crate::trouble::{Trouble, accepted};
-use counters::FrameNumber;
 use std::alloc::Global;
 use std::io;
 use std::io::{BufWriter, Write};
@@ -19,14 +18,12 @@ mod trouble;
 
 // The sheet, the contents, the last frame with the names of its places, and what came home.
 fn visit<W: Write>(out: &mut W, alloc: Global, stop: &Stop<'_>) -> Result<(), Trouble> {
-    let last = FrameNumber(u32::from(stop.last));
-    say_sheet(out, stop.title, stop.sheet)?;
+    say_sheet(out, stop)?;
     let read = sheet_read(stop.sheet);
     accepted(read.number)?;
     let fields = read.sheet;
     say_contents(out, &fields, stop.bits(alloc)?.as_slice())?;
-    let frame = stop.frame(alloc, last)?;
-    say_frame(out, alloc, stop.sheet, &fields, last, frame.as_slice())?;
+    say_frame(out, alloc, stop, &fields)?;
     writeln!(out, "{}; what came home:", stop.sending)?;
     say_home(out, alloc, stop, &fields)
 }

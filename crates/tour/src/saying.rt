@@ -1,5 +1,7 @@
 // What is printed of a sheet and of its frame.
-use counters::{FrameNumber, PhchNumber};
+use crate::stops::Stop;
+use crate::trouble::Trouble;
+use counters::PhchNumber;
 use listing::list_sheet;
 use naming::PlaceName;
 use sheet::Sheet;
@@ -9,13 +11,13 @@ use std::io::Write;
 use std::{fmt, io};
 use ummervia::{channel, name};
 
-// The bytes of a sheet, and its listing.
-pub fn say_sheet<W: Write>(out: &mut W, title: &str, sheet: &[u8]) -> io::Result<()> {
-    write!(out, "\n{title}:")?;
-    for byte in sheet {
+// The bytes of the sheet, and its listing.
+pub fn say_sheet<W: Write>(out: &mut W, stop: &Stop<'_>) -> io::Result<()> {
+    write!(out, "\n{}:", stop.title)?;
+    for byte in stop.sheet {
         write!(out, " {byte:02x}")?;
     }
-    let listing = list_sheet(sheet);
+    let listing = list_sheet(stop.sheet);
     writeln!(out)?;
     out.write_all(&listing.bytes[..listing.len])
 }
@@ -113,43 +115,31 @@ impl fmt::Display for Named {
 }
 
 // The names of the places of a physical channel.
-fn say_places<W: Write>(
-    out: &mut W,
-    sheet: &[u8],
-    frame: FrameNumber,
-    phch: &Phch,
-) -> io::Result<()> {
+fn say_places<W: Write>(out: &mut W, stop: &Stop<'_>, phch: &Phch) -> io::Result<()> {
     let subframe = phch.subframe.unwrap_or(1);
+    let number = PhchNumber(phch.number);
     for place in 1..=u32::from(phch.places) {
-        let answer = name(
-            sheet,
-            frame,
-            subframe,
-            phch.slot,
-            PhchNumber(phch.number),
-            place,
-        );
+        let answer = name(stop.sheet, stop.last(), subframe, phch.slot, number, place);
         if answer.number == 0 {
             let name = answer.name;
-            let is_filler = name.bit.number() > channel(sheet, name.trch).e;
+            let is_filler = name.bit.number() > channel(stop.sheet, name.trch).e;
             write!(out, " {}", Named { name, is_filler })?;
         }
     }
     Ok(())
 }
 
-// The bits of each physical channel, then the names of its places.
+// The last frame: the bits of each physical channel, then the names of its places.
 pub fn say_frame<W: Write>(
     out: &mut W,
     alloc: Global,
-    sheet: &[u8],
+    stop: &Stop<'_>,
     fields: &Sheet,
-    number: FrameNumber,
-    frame: &[u8],
-) -> io::Result<()> {
+) -> Result<(), Trouble> {
     let phchs = phchs_of(alloc, fields)?;
-    writeln!(out, "frame number {}, the frame:", number.number())?;
-    let mut rest = frame;
+    let frame = stop.frame(alloc, stop.last())?;
+    let mut rest = frame.as_slice();
+    writeln!(out, "frame number {}, the frame:", stop.last().number())?;
     for phch in &phchs {
         let bits = Bits::next(&mut rest, phch.places);
         writeln!(out, "{phch} {bits}")?;
@@ -157,7 +147,7 @@ pub fn say_frame<W: Write>(
     writeln!(out, "the name of each place:")?;
     for phch in &phchs {
         write!(out, "{phch}")?;
-        say_places(out, sheet, number, phch)?;
+        say_places(out, stop, phch)?;
         writeln!(out)?;
     }
     Ok(())

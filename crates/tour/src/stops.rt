@@ -19,6 +19,11 @@ pub struct Stop<'a> {
 }
 
 impl Stop<'_> {
+    // The last frame's number.
+    pub fn last(&self) -> FrameNumber {
+        FrameNumber(u32::from(self.last))
+    }
+
     // The bits of the contents.
     pub fn bits(&self, alloc: Global) -> Result<Vec<u8>, AllocError> {
         self.contents
