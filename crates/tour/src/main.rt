@@ -16,6 +16,11 @@ mod saying;
 mod stops;
 mod trouble;
 
+const INTRODUCTION: &str =
+    "Places 1, 2, .. stand from left to right. c.b is bit b of channel c, copy 0; c.b'k its copy k; * marks a filler.
+A 0 is sent as +1, a 1 as -1. Of a bit its copies come home added; 0 says that none was heard: punctured or silent.
+";
+
 // The sheet, the contents, the last frame with the names of its places, and what came home.
 fn visit<W: Write>(out: &mut W, alloc: Global, stop: &Stop<'_>) -> Result<(), Trouble> {
     say_sheet(out, stop)?;
@@ -40,8 +45,3 @@ fn main(rt: HostRuntime) -> io::Result<()> {
     }
     out.flush()
 }
-
-const INTRODUCTION: &str =
-    "Places 1, 2, .. stand from left to right. c.b is bit b of channel c, copy 0; c.b'k its copy k; * marks a filler.
-A 0 is sent as +1, a 1 as -1. Of a bit its copies come home added; 0 says that none was heard: punctured or silent.
-";
