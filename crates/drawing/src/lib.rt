@@ -2,7 +2,7 @@
 #![tactic(auto)]
 
 pub mod cells;
-pub mod labels;
+mod labels;
 pub mod layout;
 pub mod scale;
 pub mod text;
