@@ -1,5 +1,5 @@
 -- Laws of calls that open a sheet, look at lent values and write others.
-use mathlib.Core.Path.{◌≡◌, refl, sym, ap, ap₂, ◌∙◌}
+use mathlib.Core.Path.{◌≡◌, refl, sym, ap, ◌∙◌}
 use mathlib.Core.Bool.{Bool, true, false, not, ◌&&◌, ◌||◌, cond}
 use mathlib.Core.List.{List, [], ◌∷◌, ◌++◌}
 use Prim.Native.Nat.{ℕ, ◌-◌, ◌≤◌, ◌<◌}
@@ -7,7 +7,7 @@ use native.Mathlib.Omega.{arith}
 use borrow.Author.Tests.{eqb-false, ltb-true, ltb-false, not-true}
 use lib.Dec.{eqb, ltb}
 use Rattle.laws.proofs.TestLaws.{or_left, or_right}
-use Rattle.counters.specs.Lines.{Line, line, first_of, given}
+use Rattle.counters.specs.Lines.{Line, line, first_of}
 use Rattle.counters.proofs.CountLaws.{both_true}
 use Rattle.counters.proofs.LineLaws.{Numbered, none, more, each, given_yes, given_no}
 use Rattle.sheet.specs.Numbers.{read_lines}
@@ -77,10 +77,14 @@ pub early_frame : (s : List ℕ) (frame : ℕ) → Early (frame_lines s frame)
 early_frame s frame = early_more (ltb last_frame frame) 9 (early_read s) (omega arith) (λ q. omega arith)
 
 -- all that the call leaves, of a refusal and where it accepts
-module _ {A : Type 0} {n bad count : ℕ} {new old : List A} where
-  pub looked_no : {m i : ℕ} → m ≡ n → (m ≡ 0 → ⊥) → i ≡ indexed n bad → outcome m i old ≡ looked n bad count new old
-  looked_no e z h =
-      rw (e, h ∙ sym (given_no n count (indexed n bad) (λ q. z (e ∙ q))), sym (given_no n new old (λ q. z (e ∙ q)))) refl
+module _ {A : Type 0} where
+  left : {a b c d : ℕ} {x y : List A} → a ≡ b → c ≡ d → x ≡ y → outcome a c x ≡ outcome b d y
+  left p q r = rw (p, q, r)
 
-  pub looked_yes : 0 ≡ n → {c : ℕ} {b : List A} → c ≡ count → b ≡ new → outcome 0 c b ≡ looked n bad count new old
-  looked_yes e p q = rw (e, p ∙ sym (given_yes n count (indexed n bad) (sym e)), q ∙ sym (given_yes n new old (sym e))) refl
+  pub looked_no : (n bad count : ℕ) (new old : List A) {m i : ℕ} → m ≡ n → (m ≡ 0 → ⊥) → i ≡ indexed n bad → outcome m i old ≡ looked n bad count new old
+  looked_no n bad count new old e z h =
+      left e (h ∙ sym (given_no n count (indexed n bad) (λ q. z (e ∙ q)))) (sym (given_no n new old (λ q. z (e ∙ q))))
+
+  pub looked_yes : (n bad count : ℕ) (new old : List A) → 0 ≡ n → {c : ℕ} {b : List A} → c ≡ count → b ≡ new → outcome 0 c b ≡ looked n bad count new old
+  looked_yes n bad count new old e p q =
+      left e (p ∙ sym (given_yes n count (indexed n bad) (sym e))) (q ∙ sym (given_yes n new old (sym e)))

@@ -3,12 +3,11 @@ use mathlib.Core.Path.{◌≡◌, sym, ap, ◌∙◌}
 use mathlib.Core.List.{List}
 use Prim.Native.Nat.{ℕ}
 use Rattle.std.specs.Prelude.{Result}
-use Rattle.counters.specs.Lines.{given}
-use Rattle.counters.specs.Refusals.{refusal_number, number_of, at_of}
+use Rattle.counters.specs.Refusals.{number_of, at_of}
 use Rattle.counters.specs.declared.refusal.Refusal.{Refusal}
 use Rattle.counters.proofs.LineLaws.{given_yes, given_no}
 use Rattle.counters.proofs.PromiseLaws.{with_lasts}
-use Rattle.counters.proofs.RefusalLaws.{answer_same, refusal_positive}
+use Rattle.counters.proofs.RefusalLaws.{answer_same}
 use Rattle.looking.specs.Outcome.{Outcome, outcome, wrote}
 
 module _ {A : Type 0} where

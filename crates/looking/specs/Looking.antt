@@ -1,5 +1,5 @@
 -- The lines 9 to 12 of the table of numbers, and what a call leaves that looks at lent values before it writes others.
-use Rattle.std.specs.Prelude.{◌≡◌, Bool, not, ◌||◌, cond, List, [], ◌∷◌, ◌++◌, ℕ, Option, Some, None, Result, Ok, Err, eqb, ltb, length}
+use Rattle.std.specs.Prelude.{◌≡◌, Bool, not, ◌||◌, cond, List, [], ◌∷◌, ◌++◌, ℕ, Option, Some, None, Result, eqb, ltb, length}
 use Rattle.laws.specs.FirstFail.{first_fail}
 use Rattle.counters.specs.Lines.{Line, line, first_of, given}
 use Rattle.counters.specs.Refusals.{number_of, index_of}
