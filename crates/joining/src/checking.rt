@@ -10,15 +10,11 @@ fn in_range(x: f32) -> bool
     if x >= -65536.0 { x <= 65536.0 } else { false }
 }
 
-// Whether none is out of range: the loop has no way out of its middle, so that it compiles to steps of four values, as a fold does not.
+// Whether none is out of range: the loop has no way out of its middle, so that it compiles to steps of four values.
 fn all_in_range(values: &[f32]) -> bool
     ensures { result ≡ fold (λ b x. b && in_range x) true values.now }
 {
-    let mut all = true;
-    for x in values {
-        all = all & in_range(*x);
-    }
-    all
+    values.iter().fold(true, |all, x| all & in_range(*x))
 }
 
 // The index of the first value out of range.
