@@ -1,7 +1,7 @@
 -- Bits that are written field by field: what a store of a field holds, and how long the bits are.
 use mathlib.Core.Path.{◌≡◌, refl, sym, ap, ◌∙◌, subst}
 use mathlib.Core.List.{List, [], ◌++◌}
-use Prim.Native.Nat.{ℕ, zero, suc, ◌+◌, ◌-◌, ◌*◌, ◌/◌, ◌%◌, ◌^◌, ◌≤◌, ◌<◌}
+use Prim.Native.Nat.{ℕ, zero, suc, ◌+◌, ◌-◌, ◌*◌, ◌≤◌, ◌<◌}
 use native.Mathlib.Numerals.{add-one}
 use native.Mathlib.Omega.{arith}
 use native.Mathlib.Decide.{dec_lt}
@@ -11,12 +11,13 @@ use Rattle.laws.specs.Sums.{sum_to}
 use Rattle.laws.proofs.TableLaws.{zeros_at}
 use Rattle.bits.specs.Bits.{field}
 use Rattle.bits.proofs.BitLaws.{field-length, field-after, paste_before, paste_inside, paste_after}
-use Rattle.sheet.specs.Counts.{most_channels, longest_form}
-use Rattle.sheet.specs.Layout.{head_widths, width_to, version_at, version_width, mode_at, mode_width, count_at, count_width, slots_at, slots_width, uplink_at, uplink_width, lcr_at, lcr_width, top_at, top_width, spare_at, spare_width, tti_width, encoded_width, ratio_width, codes_width, log_width, capacity_width, channel_at, slot_width}
+use Rattle.sheet.specs.Counts.{longest_form}
+use Rattle.sheet.specs.Layout.{head_widths, width_to, tti_width, encoded_width, ratio_width, codes_width, log_width, capacity_width, channel_at, slot_width}
 use Rattle.sheet.specs.Fields.{tti_of, encoded_of, ratio_of, phchs_of, capacity_of, log_of}
 use Rattle.sheet.specs.Sizes.{slot_at}
 use Rattle.sheet.specs.declared.Sheet.{Sheet}
-use Rattle.writing.specs.Written.{head_values, head_to, head_bits, channel_bits, code_bits, slots_bits, Holds}
+use Rattle.writing.specs.declared.written.Bits.{Bits}
+use Rattle.writing.specs.Written.{head_values, head_to, channel_bits, code_bits, slots_bits, Holds, Written}
 use Rattle.sheet.proofs.SlotLaws.{width_more}
 
 -- the bits that the writer has room for
@@ -58,6 +59,13 @@ module _ (bs : List ℕ) (n : ℕ) (l : List ℕ) (at w v : ℕ) (h : Holds bs n
         long = ap length p ∙ length-paste bs at (field w v) w (omega (arith, h.long)) (omega (arith, field-length w v)) ∙ h.long;
         same = λ i. ap (λ (x : List ℕ). get_or x i 0) p ∙ places i (dec_lt i at) (dec_lt i (at + w));
       }
+
+-- what a put promises, and what it then comes to where its width and its value are given by equal numbers
+abbrev pub Puts : Bits → Bits → ℕ → ℕ → Type 0
+Puts b r w u = (l : List ℕ) → Written b l → Written r (l ++ field w u)
+
+pub put_as : {b r : Bits} {w u v : ℕ} (x : ℕ) (l : List ℕ) → Written b l → Puts b r w u → w ≡ x → u ≡ v → Written r (l ++ field x v)
+put_as {b} {r} {w} {u} {v} x l h m e q = subst (λ (y : ℕ). Written r (l ++ field y v)) e (subst (λ (y : ℕ). Written r (l ++ field w y)) q (m l h))
 
 module _ (sh : Sheet) where
   -- the bits before channel i with its TTI, and with its E too
@@ -120,11 +128,11 @@ module _ (sh : Sheet) where
       field-after (code_bits sh t (slots_bits sh t) p) (log_width sh.uplink) (log_of sh t p) ∙ ap (λ (x : ℕ). x + log_width sh.uplink) (codes-length t p)
 
   -- one more channel, physical channel, slot
-  channel-more : (i : ℕ) → to_encoded i ++ field ratio_width (ratio_of sh i - 1) ≡ channel_bits sh (i + 1)
+  pub channel-more : (i : ℕ) → to_encoded i ++ field ratio_width (ratio_of sh i - 1) ≡ channel_bits sh (i + 1)
   unfolding channel_bits
   channel-more i = rw (add-one i)
 
-  code_more : (t p : ℕ) → to_log t p ++ field capacity_width (capacity_of sh t p) ≡ code_bits sh t (slots_bits sh t) (p + 1)
+  pub code_more : (t p : ℕ) → to_log t p ++ field capacity_width (capacity_of sh t p) ≡ code_bits sh t (slots_bits sh t) (p + 1)
   unfolding code_bits
   code_more t p = rw (add-one p)
 
@@ -132,71 +140,8 @@ module _ (sh : Sheet) where
   unfolding slots_bits
   slots_more t = rw (add-one t)
 
-  -- a field of the head is put
-  head_more : (k : ℕ) → width_to head_widths (suc k) ≤ room → (bs : List ℕ) → Holds bs room (head_to sh k) → {u : ℕ} {r : List ℕ}
-      → u ≡ get_or (head_values sh) k 0 → r ≡ paste bs (width_to head_widths k) (field (get_or head_widths k 0) u) (get_or head_widths k 0)
-      → Holds r room (head_to sh (suc k))
+  -- one more field of the head
+  pub head_more : (k : ℕ) {b r : Bits} {u : ℕ} → Written b (head_to sh k) → Puts b r (get_or head_widths k 0) u → u ≡ get_or (head_values sh) k 0
+      → Written r (head_to sh (suc k))
   unfolding head_to
-  head_more k fits bs h q p = holds_more bs room (head_to sh k) (width_to head_widths k) (get_or head_widths k 0) (get_or (head_values sh) k 0) h (head_length k) fits q p
-
-  -- the head is put as far as T
-  pub head_put : (b : List ℕ) → Holds b room [] → {v m n t : ℕ} {b1 b2 b3 b4 : List ℕ} → v ≡ sh.version → m ≡ sh.mode → n ≡ sh.channels
-      → t ≡ sh.slots → b1 ≡ paste b version_at (field version_width v) version_width → b2 ≡ paste b1 mode_at (field mode_width m) mode_width
-      → b3 ≡ paste b2 count_at (field count_width ((n - 1) % 2 ^ count_width)) count_width → b4 ≡ paste b3 slots_at (field slots_width t) slots_width
-      → Holds b4 room (head_to sh 4)
-  unfolding head_to
-  head_put b h ev em en et p1 p2 p3 p4 =
-      let h1 = head_more 0 (omega arith) b h ev p1 in
-      let h2 = head_more 1 (omega arith) _ h1 em p2 in
-      let h3 = head_more 2 (omega arith) _ h2 (ap (λ (x : ℕ). (x - 1) % 2 ^ count_width) en) p3 in
-      head_more 3 (omega arith) _ h3 et p4
-
-  -- and the bits behind it
-  pub flags_put : (b : List ℕ) → Holds b room (head_to sh 4) → {u k n : ℕ} {b1 b2 b3 b4 : List ℕ} → u ≡ sh.uplink → k ≡ sh.lcr → n ≡ sh.channels
-      → b1 ≡ paste b uplink_at (field uplink_width u) uplink_width → b2 ≡ paste b1 lcr_at (field lcr_width k) lcr_width
-      → b3 ≡ paste b2 top_at (field top_width ((n - 1) / 2 ^ count_width)) top_width → b4 ≡ paste b3 spare_at (field spare_width 0) spare_width
-      → Holds b4 room (head_bits sh)
-  flags_put b h eu ek en p1 p2 p3 p4 =
-      let h1 = head_more 4 (omega arith) b h eu p1 in
-      let h2 = head_more 5 (omega arith) _ h1 ek p2 in
-      let h3 = head_more 6 (omega arith) _ h2 (ap (λ (x : ℕ). (x - 1) / 2 ^ count_width) en) p3 in
-      head_more 7 (omega arith) _ h3 refl p4
-
-  -- the fields of channel i are put
-  module _ (i : ℕ) (b : i < most_channels) where
-    pub tti_put : (bs : List ℕ) → Holds bs room (channel_bits sh i) → {u : ℕ} {r : List ℕ} → u ≡ tti_of sh i
-        → r ≡ paste bs (channel_at i) (field tti_width u) tti_width → Holds r room (to_tti i)
-    tti_put bs h q p = holds_more bs room (channel_bits sh i) (channel_at i) tti_width (tti_of sh i) h (channel-length i) (omega arith) q p
-
-    pub encoded_put : (bs : List ℕ) → Holds bs room (to_tti i) → {u : ℕ} {r : List ℕ} → u ≡ encoded_of sh i
-        → r ≡ paste bs (channel_at i + tti_width) (field encoded_width u) encoded_width → Holds r room (to_encoded i)
-    encoded_put bs h q p =
-        holds_more bs room (to_tti i) (channel_at i + tti_width) encoded_width (encoded_of sh i) h (tti-length i) (omega arith) q p
-
-    pub ratio_put : (bs : List ℕ) → Holds bs room (to_encoded i) → {u : ℕ} {r : List ℕ} → u ≡ ratio_of sh i
-        → r ≡ paste bs (channel_at i + (tti_width + encoded_width)) (field ratio_width (u - 1)) ratio_width → Holds r room (channel_bits sh (i + 1))
-    ratio_put bs h {u} {r} q p =
-        subst (Holds r room) (channel-more i)
-        (holds_more bs room (to_encoded i) (channel_at i + (tti_width + encoded_width)) ratio_width (ratio_of sh i - 1) h (encoded-length i) (omega arith)
-        (ap (λ (x : ℕ). x - 1) q) p)
-
-  -- P of slot t is put, a logarithm, and a capacity
-  module _ (t start : ℕ) (e : start ≡ slot_at sh t) where
-    pub slot_put : (bs : List ℕ) → Holds bs room (slots_bits sh t) → start + codes_width ≤ room → {u : ℕ} {r : List ℕ} → u ≡ phchs_of sh t
-        → r ≡ paste bs start (field codes_width (u - 1)) codes_width → Holds r room (code_bits sh t (slots_bits sh t) 0)
-    unfolding code_bits
-    slot_put bs h fits q p =
-        holds_more bs room (slots_bits sh t) start codes_width (phchs_of sh t - 1) h (slots_length t ∙ sym e) fits (ap (λ (x : ℕ). x - 1) q) p
-
-    module _ (at w k : ℕ) (ea : at ≡ start + slot_width sh.uplink k) (ew : w ≡ log_width sh.uplink) where
-      pub log_put : (bs : List ℕ) → at + w ≤ room → Holds bs room (code_bits sh t (slots_bits sh t) k) → {u : ℕ} {r : List ℕ} → u ≡ log_of sh t k
-          → r ≡ paste bs at (field w u) w → Holds r room (to_log t k)
-      log_put bs fits h {u} {r} q p =
-          subst (λ (x : ℕ). Holds r room (code_bits sh t (slots_bits sh t) k ++ field x (log_of sh t k))) ew
-          (holds_more bs room (code_bits sh t (slots_bits sh t) k) at w (log_of sh t k) h (omega (arith, codes-length t k)) fits q p)
-
-      pub capacity_put : (bs : List ℕ) → at + w + capacity_width ≤ room → Holds bs room (to_log t k) → {u : ℕ} {r : List ℕ} → u ≡ capacity_of sh t k
-          → r ≡ paste bs (at + w) (field capacity_width u) capacity_width → Holds r room (code_bits sh t (slots_bits sh t) (k + 1))
-      capacity_put bs fits h {u} {r} q p =
-          subst (Holds r room) (code_more t k)
-          (holds_more bs room (to_log t k) (at + w) capacity_width (capacity_of sh t k) h (omega (arith, logs_length t k)) fits q p)
+  head_more k h m e = put_as (get_or head_widths k 0) (head_to sh k) h m refl e

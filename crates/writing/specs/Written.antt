@@ -3,11 +3,12 @@ use Rattle.std.specs.Prelude.{◌≡◌, cond, List, [], ◌∷◌, ◌++◌, �
 use Rattle.laws.specs.Tables.{table, up_to}
 use Rattle.counters.specs.Lines.{given, Answer, answer_of}
 use Rattle.bits.specs.Bits.{field, packed, bit_of}
-use Rattle.sheet.specs.Counts.{most_channels, most_slots, most_codes, most_capacities, most_paired, most_logs}
+use Rattle.sheet.specs.Counts.{most_channels, most_slots, most_codes, most_capacities, most_paired, most_logs, longest_form}
 use Rattle.sheet.specs.Layout.{head_widths, count_width, tti_width, encoded_width, ratio_width, codes_width, log_width, capacity_width}
 use Rattle.sheet.specs.Fields.{tti_of, encoded_of, ratio_of, phchs_of, capacity_of, log_of}
 use Rattle.sheet.specs.Sizes.{bytes_needed}
 use Rattle.sheet.specs.declared.Sheet.{Sheet}
+use Rattle.writing.specs.declared.written.Bits.{Bits}
 use Rattle.writing.specs.Numbers.{field_number, write_number}
 
 -- I-1 as it stands in the head: the bits behind its top one, and that
@@ -90,3 +91,8 @@ trimmed sh =
 pub record Holds (bs : List ℕ) (n : ℕ) (bits : List ℕ) : Type 0 where
   pub long : length bs ≡ n
   pub same : (i : ℕ) → get_or bs i 0 ≡ get_or bits i 0
+
+-- the bits of a list are written, and the next place is behind them
+pub record Written (b : Bits) (bits : List ℕ) : Type 0 where
+  pub holds : Holds b.bits (8 * longest_form) bits
+  pub at : b.at ≡ length bits

@@ -1,63 +1,90 @@
 // The bytes of a sheet's fields: a bit to a byte first, then packed.
-ghost use Rattle.std.specs.Prelude.{◌≡◌, [], ◌+◌, ◌*◌, ◌≤◌, ◌<◌, length};
+ghost use Rattle.std.specs.Prelude.{◌≡◌, List, [], ◌++◌, ℕ, ◌+◌, ◌*◌, ◌≤◌, ◌<◌, length};
+ghost use Rattle.bits.specs.Bits.{field};
 ghost use Rattle.counters.specs.Refusals.{answer_in};
 ghost use Rattle.sheet.specs.Counts.{most_channels, most_slots, most_codes, longest_form};
 ghost use Rattle.sheet.specs.Layout.{channel_at, slot_width};
 ghost use Rattle.sheet.specs.Fields.{phchs_of, log_of};
-ghost use Rattle.sheet.specs.Sizes.{slot_at, bytes_needed};
+ghost use Rattle.sheet.specs.Sizes.{bytes_needed};
 ghost use Rattle.sheet.specs.Range.{Ranged};
-ghost use Rattle.writing.specs.Written.{head_to, head_bits, channel_bits, slots_bits, sheet_bits, bytes_of, length_answer, write_answer, written_to, Holds};
+ghost use Rattle.writing.specs.Written.{head_bits, channel_bits, slots_bits, sheet_bits, bytes_of, length_answer, write_answer, written_to, Written};
 
 use crate::numbers::{check_fields, check_write};
 use counters::refusal::Refusal;
 use sheet::Sheet;
 use sheet::counts::{CODES, LONGEST_FORM, PAIRED};
 use sheet::layout::{
-    CAPACITY_WIDTH, CHANNEL_WIDTH, CODES_WIDTH, COUNT_AT, COUNT_WIDTH, ENCODED_WIDTH, HEAD_WIDTH,
-    LCR_AT, LCR_WIDTH, LOG_WIDTH, MODE_AT, MODE_WIDTH, RATIO_WIDTH, SLOTS_AT, SLOTS_WIDTH,
-    SPARE_AT, SPARE_WIDTH, TOP_AT, TOP_COUNTS, TOP_WIDTH, TTI_WIDTH, UPLINK_AT, UPLINK_WIDTH,
-    VERSION_AT, VERSION_WIDTH,
+    CAPACITY_WIDTH, CODES_WIDTH, COUNT_WIDTH, ENCODED_WIDTH, LCR_WIDTH, LOG_WIDTH, MODE_WIDTH,
+    RATIO_WIDTH, SLOTS_WIDTH, SPARE_WIDTH, TOP_COUNTS, TOP_WIDTH, TTI_WIDTH, UPLINK_WIDTH,
+    VERSION_WIDTH,
 };
-use sheet::sizes::slot_width;
 
-// The head as far as T.
-fn put_head(bs: &mut [u8], fields: &Sheet)
-    requires { Ranged fields.now × Holds bs.old (8 * longest_form) [] }
-    ensures { Holds bs.new (8 * longest_form) (head_to fields.now 4) }
-{
-    let low = (u64::from(fields.channels) - 1) % TOP_COUNTS;
-    bits::put_field(bs, VERSION_AT, VERSION_WIDTH, u64::from(fields.version));
-    bits::put_field(bs, MODE_AT, MODE_WIDTH, u64::from(fields.mode));
-    bits::put_field(bs, COUNT_AT, COUNT_WIDTH, low);
-    bits::put_field(bs, SLOTS_AT, SLOTS_WIDTH, u64::from(fields.slots));
+// The bits of a sheet, one to a byte: so many are written, and the others are 0.
+#[derive(Drop)]
+struct Bits {
+    bits: [u8; 8 * LONGEST_FORM],
+    at: usize,
 }
 
-// The four bits behind T.
-fn put_flags(bs: &mut [u8], fields: &Sheet)
-    requires { Ranged fields.now × Holds bs.old (8 * longest_form) (head_to fields.now 4) }
-    ensures { Holds bs.new (8 * longest_form) (head_bits fields.now) }
-{
-    let top = (u64::from(fields.channels) - 1) / TOP_COUNTS;
-    bits::put_field(bs, UPLINK_AT, UPLINK_WIDTH, u64::from(fields.uplink));
-    bits::put_field(bs, LCR_AT, LCR_WIDTH, u64::from(fields.lcr));
-    bits::put_field(bs, TOP_AT, TOP_WIDTH, top);
-    bits::put_field(bs, SPARE_AT, SPARE_WIDTH, 0);
-}
+impl Bits {
+    // A field of so many bits, behind those before it.
+    fn put(&mut self, width: usize, value: u64)
+        requires { (width ≤ 14) × (self.old.at + width ≤ 8 * longest_form) }
+        ensures more { (l : List ℕ) → Written self.old l → Written self.new (l ++ field width value) }
+        ensures end { self.new.at ≡ self.old.at + width }
+    {
+        bits::put_field(&mut self.bits, self.at, width, value);
+        self.at += width;
+    }
 
-fn put_channels(bs: &mut [u8], fields: &Sheet)
-    requires { Ranged fields.now × Holds bs.old (8 * longest_form) (head_bits fields.now) }
-    ensures { Holds bs.new (8 * longest_form) (channel_bits fields.now fields.now.channels) }
-{
-    for i in 0..usize::from(fields.channels) {
-        let at = HEAD_WIDTH + CHANNEL_WIDTH * i;
-        bits::put_field(bs, at, TTI_WIDTH, u64::from(fields.tti[i]));
-        bits::put_field(bs, at + TTI_WIDTH, ENCODED_WIDTH, u64::from(fields.e[i]));
-        bits::put_field(
-            bs,
-            at + (TTI_WIDTH + ENCODED_WIDTH),
-            RATIO_WIDTH,
-            u64::from(fields.rm[i]) - 1,
-        );
+    fn put_head(&mut self, fields: &Sheet)
+        requires { Ranged fields.now × Written self.old [] }
+        ensures { Written self.new (head_bits fields.now) }
+    {
+        let last = u64::from(fields.channels) - 1;
+        self.put(VERSION_WIDTH, u64::from(fields.version));
+        self.put(MODE_WIDTH, u64::from(fields.mode));
+        self.put(COUNT_WIDTH, last % TOP_COUNTS);
+        self.put(SLOTS_WIDTH, u64::from(fields.slots));
+        self.put(UPLINK_WIDTH, u64::from(fields.uplink));
+        self.put(LCR_WIDTH, u64::from(fields.lcr));
+        self.put(TOP_WIDTH, last / TOP_COUNTS);
+        self.put(SPARE_WIDTH, 0);
+    }
+
+    fn put_channels(&mut self, fields: &Sheet)
+        requires { Ranged fields.now × Written self.old (head_bits fields.now) }
+        ensures { Written self.new (channel_bits fields.now fields.now.channels) }
+    {
+        for i in 0..usize::from(fields.channels) {
+            self.put(TTI_WIDTH, u64::from(fields.tti[i]));
+            self.put(ENCODED_WIDTH, u64::from(fields.e[i]));
+            self.put(RATIO_WIDTH, u64::from(fields.rm[i]) - 1);
+        }
+    }
+
+    fn put_slot(&mut self, fields: &Sheet, t: usize)
+        requires { (fields.now.uplink ≤ 1) × (t < most_slots) × (1 ≤ phchs_of fields.now t) × (phchs_of fields.now t ≤ most_codes) × (self.old.at ≤ channel_at most_channels + slot_width 1 most_codes * t) × Written self.old (slots_bits fields.now t) }
+        ensures more { Written self.new (slots_bits fields.now (t + 1)) }
+        ensures room { self.new.at ≤ channel_at most_channels + slot_width 1 most_codes * (t + 1) }
+    {
+        let n = usize::from(fields.phchs[t]);
+        self.put(CODES_WIDTH, (n - 1) as u64);
+        let width = LOG_WIDTH * usize::from(fields.uplink);
+        for p in 0..n {
+            let m = CODES * t + p;
+            self.put(width, log_at(fields, t, p));
+            self.put(CAPACITY_WIDTH, u64::from(fields.caps[m]));
+        }
+    }
+
+    fn put_slots(&mut self, fields: &Sheet)
+        requires { Ranged fields.now × Written self.old (channel_bits fields.now fields.now.channels) }
+        ensures { Written self.new (sheet_bits fields.now) }
+    {
+        for t in 0..usize::from(fields.slots) {
+            self.put_slot(fields, t);
+        }
     }
 }
 
@@ -72,44 +99,19 @@ fn log_at(fields: &Sheet, t: usize, p: usize) -> u64
     0
 }
 
-fn put_slot(bs: &mut [u8], fields: &Sheet, t: usize, start: usize)
-    requires { (fields.now.uplink ≤ 1) × (t < most_slots) × (1 ≤ phchs_of fields.now t) × (phchs_of fields.now t ≤ most_codes) × (start ≡ slot_at fields.now t) × (start ≤ channel_at most_channels + slot_width 1 most_codes * t) × Holds bs.old (8 * longest_form) (slots_bits fields.now t) }
-    ensures { Holds bs.new (8 * longest_form) (slots_bits fields.now (t + 1)) }
-{
-    let n = usize::from(fields.phchs[t]);
-    bits::put_field(bs, start, CODES_WIDTH, (n - 1) as u64);
-    let width = LOG_WIDTH * usize::from(fields.uplink);
-    let mut at = start + CODES_WIDTH;
-    for p in 0..n {
-        let m = CODES * t + p;
-        bits::put_field(bs, at, width, log_at(fields, t, p));
-        bits::put_field(bs, at + width, CAPACITY_WIDTH, u64::from(fields.caps[m]));
-        at += width + CAPACITY_WIDTH;
-    }
-}
-
-fn put_slots(bs: &mut [u8], fields: &Sheet)
-    requires { Ranged fields.now × Holds bs.old (8 * longest_form) (channel_bits fields.now fields.now.channels) }
-    ensures { Holds bs.new (8 * longest_form) (sheet_bits fields.now) }
-{
-    let mut at = HEAD_WIDTH + CHANNEL_WIDTH * usize::from(fields.channels);
-    for t in 0..usize::from(fields.slots) {
-        put_slot(bs, fields, t, at);
-        at += slot_width(fields.uplink, fields.phchs[t]);
-    }
-}
-
 // The bytes of fields that are all in range.
 fn put_sheet(fields: &Sheet, out: &mut [u8])
     requires { Ranged fields.now × (length out.old ≡ bytes_needed fields.now) × (bytes_needed fields.now ≤ longest_form) }
     ensures { out.new ≡ bytes_of fields.now }
 {
-    let mut bs = [0u8; 8 * LONGEST_FORM];
-    put_head(&mut bs, fields);
-    put_flags(&mut bs, fields);
-    put_channels(&mut bs, fields);
-    put_slots(&mut bs, fields);
-    bits::pack(&bs, out);
+    let mut b = Bits {
+        bits: [0; 8 * LONGEST_FORM],
+        at: 0,
+    };
+    b.put_head(fields);
+    b.put_channels(fields);
+    b.put_slots(fields);
+    bits::pack(&b.bits, out);
 }
 
 // How many bytes the sheet of these fields has, or why there is none.
