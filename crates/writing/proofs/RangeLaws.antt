@@ -153,16 +153,6 @@ writable sh n h =
     let k = pass_zero (not (eqb n (bytes_needed sh))) 10 0 (sym (append_clear (buffer_line sh n) d) ∙ h) in
     record { fields = of_clear d; exact = eqb-true n (bytes_needed sh) (not-false _ k.0) }
 
--- the number of writing: that of the fields where they have one, that of the buffer where they have none
-pub field-first : (sh : Sheet) (n : ℕ) → (field_number sh ≡ 0 → ⊥) → field_number sh ≡ write_number sh n
-field-first sh n h = first-append (field_lines sh) (buffer_line sh n) h
-
-buffer-number : (sh : Sheet) (n : ℕ) → field_number sh ≡ 0 → write_number sh n ≡ first_of (buffer_line sh n)
-buffer-number sh n z = append_clear {xs = field_lines sh} (buffer_line sh n) (clear_of (field_numbered sh) z)
-
-pub write_eleven : (sh : Sheet) (n : ℕ) → field_number sh ≡ 0 → (n ≡ bytes_needed sh → ⊥) → write_number sh n ≡ 11
-write_eleven sh n z h = buffer-number sh n z ∙ ap (λ (b : Bool). cond (not b) 11 0) (ne_eqb n (bytes_needed sh) h)
-
 -- a refusal has a number
 pub some_number : (r : Refusal) → refusal_number r ≡ 0 → ⊥
 some_number ShortSheet h = omega arith
@@ -179,6 +169,16 @@ some_number WrongLength h = omega arith
 some_number (BadValue at) h = omega arith
 some_number BadUplink h = omega arith
 some_number BadSubframe h = omega arith
+
+-- the number of writing: that of the fields where they have one, that of the buffer where they have none
+pub field-first : (sh : Sheet) (n : ℕ) → (field_number sh ≡ 0 → ⊥) → field_number sh ≡ write_number sh n
+field-first sh n h = first-append (field_lines sh) (buffer_line sh n) h
+
+buffer-number : (sh : Sheet) (n : ℕ) → field_number sh ≡ 0 → write_number sh n ≡ first_of (buffer_line sh n)
+buffer-number sh n z = append_clear {xs = field_lines sh} (buffer_line sh n) (clear_of (field_numbered sh) z)
+
+pub write_eleven : (sh : Sheet) (n : ℕ) → field_number sh ≡ 0 → (n ≡ bytes_needed sh → ⊥) → write_number sh n ≡ 11
+write_eleven sh n z h = buffer-number sh n z ∙ ap (λ (b : Bool). cond (not b) 11 0) (ne_eqb n (bytes_needed sh) h)
 
 pub write_zero : (sh : Sheet) (n : ℕ) → Writable sh n → write_number sh n ≡ 0
 write_zero sh n w = buffer-number sh n w.fields ∙ ap (λ (b : Bool). cond (not b) 11 0) (eq-eqb n (bytes_needed sh) w.exact)
