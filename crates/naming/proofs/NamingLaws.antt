@@ -1,11 +1,10 @@
 -- Laws of steps 7 to 2 as the code goes back through them.
 use mathlib.Core.Path.{◌≡◌, ap, ◌∙◌}
-use mathlib.Core.Bool.{Bool}
 use Prim.Native.Nat.{ℕ, ◌+◌, ◌*◌, ◌-◌, ◌%◌, ◌≤◌, ◌<◌}
 use native.Mathlib.Nat.{mul-le-mul}
 use native.Mathlib.Omega.{arith}
 use lib.IntN.{nat_abs}
-use Rattle.sheet.specs.Counts.{most_frames, most_encoded, most_bits}
+use Rattle.sheet.specs.Counts.{most_frames, most_encoded}
 use Rattle.sheet.specs.Fields.{tti_of}
 use Rattle.sheet.specs.Sizes.{frames_of, size_of, capacity_all}
 use Rattle.sheet.specs.Range.{Accepted}
@@ -13,13 +12,14 @@ use Rattle.sheet.specs.declared.Sheet.{Sheet}
 use Rattle.orders.specs.Orders.{column_at}
 use Rattle.matching.specs.Signed.{signed_by}
 use Rattle.matching.specs.Shares.{cut_of, share_of, change_of, channel_of}
-use Rattle.pattern.specs.Pattern.{Rates, Segment}
+use Rattle.pattern.specs.Pattern.{Rates}
 use Rattle.pattern.specs.Closed.{source_of, copy_of, Stood}
 use Rattle.matching.proofs.SignedLaws.{magnitude}
 use Rattle.pattern.proofs.StoodLaws.{stood_start}
 use Rattle.frame.specs.Frame.{start_at}
 use Rattle.frame.proofs.FrameLaws.{rates}
-use Rattle.frame.proofs.SendLaws.{sending}
+use Rattle.frame.specs.Walk.{Walks}
+use Rattle.frame.specs.declared.walking.Walk.{Walk}
 use Rattle.naming.specs.Name.{Name, bit_number, name_at}
 use Rattle.naming.proofs.Multiplexed.{lies}
 
@@ -36,20 +36,15 @@ pub record Part (sh : Sheet) (x i : ℕ) : Type 0 where
 pub part : (sh : Sheet) → Accepted sh → (x : ℕ) → x < capacity_all sh → {i : ℕ} → i ≡ channel_of sh x → Part sh x i
 part sh ok x h e = let p = lies sh ok x h in rw e (record { inside = p.channel; from = p.from; share = p.share })
 
--- what stands at v of the channel, d being given by its sign and magnitude, and a start that is step 5's where there is a pattern
-module _ (sh : Sheet) (ok : Accepted sh) (frame x i : ℕ) (p : Part sh x i) (less : Bool) (m e : ℕ) {N W v : ℕ} (en : N ≡ size_of sh i)
-    (ew : W ≡ share_of sh i) (ev : v ≡ x - cut_of sh i) (ed : signed_by less m ≡ change_of sh i) (em : m ≤ most_bits)
-    (es : 0 < size_of sh i → 0 < m → e ≡ start_at sh frame i) where
-  pub asked : Segment less m N W e × (v < W)
-  asked = (sending sh ok i p.inside frame less m e ed em en ew es, omega (arith, p.share))
-
-  pub stood : {bit copy : ℕ} → Stood (signed_by less m) N e v bit copy
+-- what stands at v of the channel, by its walk
+module _ (sh : Sheet) (ok : Accepted sh) (frame x i : ℕ) (p : Part sh x i) (w : Walk) (k : Walks sh frame i w) where
+  pub stood : {N v bit copy : ℕ} → N ≡ size_of sh i → v ≡ x - cut_of sh i → Stood (signed_by w.d.less w.d.size) N w.e v bit copy
       → Stood (change_of sh i) (size_of sh i) (start_at sh frame i) (x - cut_of sh i) bit copy
-  stood {bit} {copy} o =
-      let r : Rates (change_of sh i) (size_of sh i) (share_of sh i) e = rw (ed, en, ew) at asked.0.rates in
-      let q : Stood (change_of sh i) (size_of sh i) e (x - cut_of sh i) bit copy = rw (ed, en, ev) at o in
-      stood_start (change_of sh i) (size_of sh i) (share_of sh i) e (start_at sh frame i) (x - cut_of sh i) bit copy r (rates sh ok frame i) p.share
-      (λ a b. es a (let k : 0 < nat_abs (signed_by less m) = rw ed b in rw (magnitude less m) at k)) q
+  stood {N} {v} {bit} {copy} en ev o =
+      let r : Rates (change_of sh i) (size_of sh i) (share_of sh i) w.e = rw (k.change, k.size) at k.fits.rates in
+      let q : Stood (change_of sh i) (size_of sh i) w.e (x - cut_of sh i) bit copy = rw (k.change, en, ev) at o in
+      stood_start (change_of sh i) (size_of sh i) (share_of sh i) w.e (start_at sh frame i) (x - cut_of sh i) bit copy r (rates sh ok frame i) p.share
+      (λ a b. k.start a (let z : 0 < nat_abs (signed_by w.d.less w.d.size) = rw k.change b in rw (magnitude w.d.less w.d.size) at z)) q
 
 -- the name of what stands there
 abbrev name_from : Sheet → ℕ → ℕ → ℕ → Name
