@@ -11,6 +11,7 @@ use counters::FrameNumber;
 use opening::Opened;
 
 // The room is for the multiplexed bits; a frame takes its first part.
+#[tactic(auto, unfolding(crate::specs::Frame::bit_frame, crate::specs::Frame::frame_of, crate::specs::Frame::multiplexed_bits))]
 fn build_in<const ROOM: usize>(contents: &[u8], opened: &Opened, frame: FrameNumber, out: &mut [u8])
     requires { (length contents.now ≡ encoded_all opened.now.fields) × (ROOM ≤ most_bits) × (length out.old ≤ ROOM) × (length out.old ≡ capacity_all opened.now.fields) }
     ensures { out.new ≡ bit_frame opened.now.fields frame.0 contents.now }

@@ -39,6 +39,7 @@ pub struct Block {
 }
 
 // Of sub-frame h of k, which have w places each; the slot's are from a to e.
+#[tactic(auto, unfolding(crate::specs::Slots::block_of))]
 pub fn block_of(mode: u16, k: usize, h: usize, w: usize, a: usize, e: usize) -> Block
     requires { (k ≤ most_subframes) × (h < k) × (w ≤ most_bits) × (a ≤ e) × (e ≤ w) }
     ensures { result ≡ block_of mode k h w a (e - a) }
@@ -90,7 +91,8 @@ fn spread_subframe(bits: &[u8], fields: &Sheet, h: usize, out: &mut [u8])
     }
 }
 
-// Steps 8 and 9: the frame of multiplexed bits, sub-frame after sub-frame.
+// Steps 8 and 9: the frame of multiplexed bits, sub-frame after sub-frame. Not by chunks_exact_mut: once its loans are back, a proof knows how long the
+// frame is, and none of its bits.
 pub fn spread_bits(bits: &[u8], fields: &Sheet, out: &mut [u8])
     requires { Accepted fields.now × (length bits.now ≡ capacity_all fields.now) × (length out.old ≡ capacity_all fields.now) }
     ensures { out.new ≡ spread fields.now bits.now }
