@@ -1,7 +1,7 @@
 -- The test of a place is true exactly where the place exists.
-use mathlib.Core.Path.{◌≡◌, sym, ap, ◌∙◌}
+use mathlib.Core.Path.{◌≡◌}
 use mathlib.Core.Logic.{◌↔◌}
-use mathlib.Core.Bool.{Bool, true, false, ◌&&◌}
+use mathlib.Core.Bool.{Bool, true, ◌&&◌}
 use Prim.Native.Nat.{ℕ, ◌-◌}
 use Rattle.counters.specs.Counting.{among}
 use Rattle.counters.proofs.CountLaws.{both_true, among_true, true_among}
@@ -18,30 +18,6 @@ abbrev in_slot : Sheet → ℕ → ℕ → ℕ → Bool
 in_slot sh slot phch place = among slot sh.slots && in_phch sh slot phch place
 
 module _ (sh : Sheet) (subframe slot phch place : ℕ) where
-  -- the test, as far as it goes, in a sub-frame that is there
-  module _ (h : among subframe (subframes_of sh) ≡ true) where
-    slot_next : {b : Bool} → in_slot sh slot phch place ≡ b → b ≡ has_place sh subframe slot phch place
-    unfolding has_place
-    slot_next e = sym (ap (λ (b : Bool). b && in_slot sh slot phch place) h ∙ e)
-
-    phch-next : among slot sh.slots ≡ true → {b : Bool} → in_phch sh slot phch place ≡ b → b ≡ has_place sh subframe slot phch place
-    phch-next s e = slot_next (ap (λ (b : Bool). b && in_phch sh slot phch place) s ∙ e)
-
-    pub asked_all : among slot sh.slots ≡ true → among phch (phchs_of sh (slot - 1)) ≡ true
-        → among place (capacity_of sh (slot - 1) (phch - 1)) ≡ has_place sh subframe slot phch place
-    asked_all s p = phch-next s (ap (λ (b : Bool). b && among place (capacity_of sh (slot - 1) (phch - 1))) p)
-
-    pub asked_phch : among slot sh.slots ≡ true → among phch (phchs_of sh (slot - 1)) ≡ false → false ≡ has_place sh subframe slot phch place
-    asked_phch s p = phch-next s (ap (λ (b : Bool). b && among place (capacity_of sh (slot - 1) (phch - 1))) p)
-
-    pub asked_slot : among slot sh.slots ≡ false → false ≡ has_place sh subframe slot phch place
-    asked_slot s = slot_next (ap (λ (b : Bool). b && in_phch sh slot phch place) s)
-
-  -- and in one that is not
-  pub asked_subframe : among subframe (subframes_of sh) ≡ false → false ≡ has_place sh subframe slot phch place
-  unfolding has_place
-  asked_subframe h = sym (ap (λ (b : Bool). b && in_slot sh slot phch place) h)
-
   -- the test is true exactly where the place exists
   pub exists : (has_place sh subframe slot phch place ≡ true) ↔ Exists sh subframe slot phch place
   unfolding has_place
@@ -69,7 +45,9 @@ module _ (sh : Sheet) (subframe slot phch place : ℕ) where
 
       test : Exists sh subframe slot phch place → has_place sh subframe slot phch place ≡ true
       test x =
-          sym
-          (asked_all (true_among subframe (subframes_of sh) x.subframe-from x.subframe-to)
-          (true_among slot sh.slots x.slot-from x.slot-to) (true_among phch (phchs_of sh (slot - 1)) x.phch-from x.phch-to))
-          ∙ true_among place (capacity_of sh (slot - 1) (phch - 1)) x.place-from x.place-to
+          rw (
+            true_among subframe (subframes_of sh) x.subframe-from x.subframe-to,
+            true_among slot sh.slots x.slot-from x.slot-to,
+            true_among phch (phchs_of sh (slot - 1)) x.phch-from x.phch-to,
+            true_among place (capacity_of sh (slot - 1) (phch - 1)) x.place-from x.place-to,
+          )

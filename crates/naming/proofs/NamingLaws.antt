@@ -1,10 +1,7 @@
 -- Laws of steps 7 to 2 as the code goes back through them.
 use mathlib.Core.Path.{◌≡◌, ap, ◌∙◌}
 use Prim.Native.Nat.{ℕ, ◌+◌, ◌*◌, ◌-◌, ◌%◌, ◌≤◌, ◌<◌}
-use native.Mathlib.Nat.{mul-le-mul}
-use native.Mathlib.Omega.{arith}
 use lib.IntN.{nat_abs}
-use Rattle.sheet.specs.Counts.{most_frames, most_encoded}
 use Rattle.sheet.specs.Fields.{tti_of}
 use Rattle.sheet.specs.Sizes.{frames_of, size_of, capacity_all}
 use Rattle.sheet.specs.Range.{Accepted}
@@ -22,10 +19,6 @@ use Rattle.frame.specs.Walk.{Walks}
 use Rattle.frame.specs.declared.walking.Walk.{Walk}
 use Rattle.naming.specs.Name.{Name, bit_number, name_at}
 use Rattle.naming.proofs.Multiplexed.{lies}
-
--- a bit's number fits
-pub number-most : {m f : ℕ} → m < most_encoded → f ≤ most_frames → m * f ≤ most_encoded * most_frames
-number-most {m} {f} h k = mul-le-mul {n₁ = m} {m₁ = f} {n₂ = most_encoded} {m₂ = most_frames} (omega arith) k
 
 -- index x in its channel i
 pub record Part (sh : Sheet) (x i : ℕ) : Type 0 where

@@ -67,6 +67,7 @@ fn name_at(opened: &Opened, frame: FrameNumber, x: u64) -> PlaceName
 
 impl Place {
     // The name of a place that exists.
+    #[tactic(auto, unfolding(crate::specs::Name::name_of))]
     pub fn name(self, opened: &Opened, frame: FrameNumber) -> PlaceName
         requires { Opens opened.now × Exists opened.now.fields self.subframe self.slot self.phch.0 self.place }
         ensures { name_in result ≡ name_of opened.now.fields frame.0 self.subframe self.slot self.phch.0 self.place }

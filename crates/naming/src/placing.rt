@@ -68,6 +68,7 @@ fn read_at(opened: &Opened, h: u64, t: usize, k: u64) -> u64
 
 impl Place {
     // The index of the multiplexed frame that stands at the place.
+    #[tactic(auto, unfolding(crate::specs::Name::multiplexed_at))]
     pub fn index(self, opened: &Opened) -> u64
         requires { Opens opened.now × Exists opened.now.fields self.subframe self.slot self.phch.0 self.place }
         ensures { (result ≡ multiplexed_at opened.now.fields self.subframe self.slot self.phch.0 self.place) × (result < capacity_all opened.now.fields) }
