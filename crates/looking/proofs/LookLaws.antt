@@ -4,16 +4,21 @@ use mathlib.Core.Bool.{Bool, true, false, not, ◌&&◌, ◌||◌, cond}
 use mathlib.Core.List.{List, [], ◌∷◌, ◌++◌}
 use Prim.Native.Nat.{ℕ, ◌-◌, ◌≤◌, ◌<◌}
 use native.Mathlib.Omega.{arith}
-use borrow.Author.Tests.{eqb-false, ltb-true, ltb-false, not-true}
+use borrow.Author.Tests.{ne_eqb, eqb-false, ltb-true, ltb-false, not-true}
 use lib.Dec.{eqb, ltb}
+use Rattle.std.specs.Prelude.{Result, Err}
+use Rattle.laws.specs.FirstFail.{first_fail}
 use Rattle.laws.proofs.TestLaws.{or_left, or_right}
 use Rattle.counters.specs.Lines.{Line, line, first_of}
+use Rattle.counters.specs.Refusals.{refusal_number, refusal_at}
+use Rattle.counters.specs.declared.refusal.Refusal.{Refusal}
 use Rattle.counters.proofs.CountLaws.{both_true}
-use Rattle.counters.proofs.LineLaws.{Numbered, none, more, each, given_yes, given_no}
+use Rattle.counters.proofs.LineLaws.{Numbered, none, more, each, clear_of, append_clear, first-append, given_yes, given_no}
+use Rattle.counters.proofs.RefusalLaws.{refusal_positive}
 use Rattle.sheet.specs.Numbers.{read_lines}
 use Rattle.sheet.specs.declared.Sheet.{Sheet}
 use Rattle.looking.specs.Outcome.{outcome}
-use Rattle.looking.specs.Looking.{last_frame, frame_lines, no_trch, indexed, looked}
+use Rattle.looking.specs.Looking.{last_frame, frame_lines, no_trch, look_lines, indexed, looked, Looks}
 
 -- ---- a channel by its number
 
@@ -75,6 +80,21 @@ early_more b n (and_line x y e) p q = and_line x y (early_more b n e p q)
 
 pub early_frame : (s : List ℕ) (frame : ℕ) → Early (frame_lines s frame)
 early_frame s frame = early_more (ltb last_frame frame) 9 (early_read s) (omega arith) (λ q. omega arith)
+
+-- other lines, and then a look at lent values: refused by the lines, or by what was looked at
+module _ {A : Type 0} (test : A → Bool) (head : List Line) (early : Early head) (vs : List A) (needed n room : ℕ) where
+  abbrev tail : List Line
+  tail = look_lines test vs needed n room
+
+  pub looks_early : (B : Type 0) (r : Refusal) → refusal_number r ≡ first_of head → refusal_at r ≡ 0 → Looks {B = B} test head vs needed n room (Err r)
+  looks_early B r e i =
+      let f = e ∙ first-append head tail (λ q. omega (arith, e, q, refusal_positive r)) in
+      (f, i ∙ sym (ap (λ (b : Bool). cond b (first_fail test vs) 0) (ne_eqb (first_of (head ++ tail)) 12 (λ q. early_not early (sym e ∙ f ∙ q)))))
+
+  pub looks_late : {B : Type 0} → 0 ≡ first_of head → (x : Result B Refusal) → Looks {B = B} test [] vs needed n room x → Looks {B = B} test head vs needed n room x
+  looks_late {B = B} z x l =
+      let w : first_of (head ++ tail) ≡ first_of tail = append_clear tail (clear_of (early_numbered early) (sym z)) in
+      (l.0 ∙ sym w, l.1 ∙ ap (λ (k : ℕ). indexed k (first_fail test vs)) (sym w))
 
 -- all that the call leaves, of a refusal and where it accepts
 module _ {A : Type 0} where

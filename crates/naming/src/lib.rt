@@ -5,7 +5,6 @@ ghost use Rattle.std.specs.Prelude.{◌≡◌, ◌+◌, ◌*◌, ◌%◌, ◌≤
 ghost use Rattle.sheet.specs.Counts.{most_tti, most_encoded};
 ghost use Rattle.sheet.specs.Sizes.{frames_in, capacity_all};
 ghost use Rattle.orders.specs.Orders.{column_at};
-ghost use Rattle.opening.specs.Opened.{Opens};
 ghost use Rattle.naming.specs.Name.{name_at, name_of, name_in, Exists};
 
 use counters::{BitNumber, FrameNumber, PhchNumber, TrchNumber};
@@ -46,7 +45,7 @@ fn bit_number(tti: u16, frame: FrameNumber, m: u64) -> BitNumber
 
 // Steps 7 to 2: the name of what stands at index x of the multiplexed frame.
 fn name_at(opened: &Opened, frame: FrameNumber, x: u64) -> PlaceName
-    requires { Opens opened.now × (x < capacity_all opened.now.fields) }
+    requires { x < capacity_all opened.now.fields }
     ensures { name_in result ≡ name_at opened.now.fields frame.0 x }
 {
     let i = opened.channel_at(x);
@@ -69,7 +68,7 @@ impl Place {
     // The name of a place that exists.
     #[tactic(auto, unfolding(crate::specs::Name::name_of))]
     pub fn name(self, opened: &Opened, frame: FrameNumber) -> PlaceName
-        requires { Opens opened.now × Exists opened.now.fields self.subframe self.slot self.phch.0 self.place }
+        requires { Exists opened.now.fields self.subframe self.slot self.phch.0 self.place }
         ensures { name_in result ≡ name_of opened.now.fields frame.0 self.subframe self.slot self.phch.0 self.place }
     {
         let x = self.index(opened);

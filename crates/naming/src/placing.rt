@@ -4,7 +4,6 @@ ghost use Rattle.sheet.specs.Counts.{most_codes};
 ghost use Rattle.sheet.specs.Fields.{phchs_of, capacity_of};
 ghost use Rattle.sheet.specs.Sizes.{slot_capacity, subframes_of, capacity_all};
 ghost use Rattle.sheet.specs.Range.{Ranged, Accepted};
-ghost use Rattle.opening.specs.Opened.{Opens};
 ghost use Rattle.frame.specs.Frame.{slot_start};
 ghost use Rattle.naming.specs.Name.{slot_bit_at, read_from, multiplexed_at, Exists};
 
@@ -52,7 +51,7 @@ fn slot_bit(fields: &Sheet, t: usize, p: usize, place: usize) -> u64
 
 // Step 8: from where the slot's bit k of sub-frame h is read.
 fn read_at(opened: &Opened, h: u64, t: usize, k: u64) -> u64
-    requires { Opens opened.now × (h < subframes_of opened.now.fields) × (t < opened.now.fields.slots) × (k < slot_capacity opened.now.fields t) }
+    requires { (h < subframes_of opened.now.fields) × (t < opened.now.fields.slots) × (k < slot_capacity opened.now.fields t) }
     ensures { (result ≡ read_from opened.now.fields h t k) × (result < capacity_all opened.now.fields) }
 {
     let start = slot_start(&opened.fields, t);
@@ -70,7 +69,7 @@ impl Place {
     // The index of the multiplexed frame that stands at the place.
     #[tactic(auto, unfolding(crate::specs::Name::multiplexed_at))]
     pub fn index(self, opened: &Opened) -> u64
-        requires { Opens opened.now × Exists opened.now.fields self.subframe self.slot self.phch.0 self.place }
+        requires { Exists opened.now.fields self.subframe self.slot self.phch.0 self.place }
         ensures { (result ≡ multiplexed_at opened.now.fields self.subframe self.slot self.phch.0 self.place) × (result < capacity_all opened.now.fields) }
     {
         let h = u64::from(self.subframe - 1);

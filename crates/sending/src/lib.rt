@@ -19,7 +19,12 @@ use looking::{look, open_frame};
 use opening::{Opened, open_sheet};
 
 // The contents are asked, of which a buffer of n places is to take the frame.
-fn open_contents(bytes: &[u8], frame: FrameNumber, contents: &[u8], n: usize) -> Result<Opened, Refusal>
+fn open_contents(
+    bytes: &[u8],
+    frame: FrameNumber,
+    contents: &[u8],
+    n: usize,
+) -> Result<Opened, Refusal>
     ensures number { Looks is_bit (frame_lines bytes.now frame.0) contents.now (encoded_all (sheet_of bytes.now)) n (capacity_all (sheet_of bytes.now)) result }
     ensures opened { IfOk result (λ o. o.fields ≡ sheet_of bytes.now) }
     ensures long { IfOk result (λ o. (length contents.now ≡ encoded_all o.fields) × (n ≡ capacity_all o.fields)) }
@@ -30,7 +35,12 @@ fn open_contents(bytes: &[u8], frame: FrameNumber, contents: &[u8], n: usize) ->
 }
 
 // Steps 1 to 9: the frame of the contents.
-pub fn build(bytes: &[u8], frame: FrameNumber, contents: &[u8], out: &mut [u8]) -> Result<u64, Refusal>
+pub fn build(
+    bytes: &[u8],
+    frame: FrameNumber,
+    contents: &[u8],
+    out: &mut [u8],
+) -> Result<u64, Refusal>
     ensures { outcome (number_of result) (at_of result) out.new ≡ build_into bytes.now frame.0 contents.now out.old }
 {
     let opened = open_contents(bytes, frame, contents, out.len())?;
@@ -39,7 +49,12 @@ pub fn build(bytes: &[u8], frame: FrameNumber, contents: &[u8], out: &mut [u8]) 
 }
 
 // Steps 1 to 7: the multiplexed bits of the contents.
-pub fn multiplex(bytes: &[u8], frame: FrameNumber, contents: &[u8], out: &mut [u8]) -> Result<u64, Refusal>
+pub fn multiplex(
+    bytes: &[u8],
+    frame: FrameNumber,
+    contents: &[u8],
+    out: &mut [u8],
+) -> Result<u64, Refusal>
     ensures { outcome (number_of result) (at_of result) out.new ≡ multiplex_into bytes.now frame.0 contents.now out.old }
 {
     let opened = open_contents(bytes, frame, contents, out.len())?;

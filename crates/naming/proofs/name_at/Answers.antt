@@ -19,18 +19,18 @@ module _ (c : After-share-v) where
   i = c.channel_at-i.result
 
   here : Part f c.args.x i
-  here = part f c.requires.0.accepted c.args.x c.requires.1 c.channel_at-i.ensures.0
+  here = part f c.args.opened.now.accepted c.args.x c.requires c.channel_at-i.ensures.0
 
   sized : c.from-n.result ≡ size_of f i
-  sized = c.from-n.ensures ∙ size_is c.args.opened.now c.requires.0 i here.inside
+  sized = c.from-n.ensures ∙ size_is c.args.opened.now i here.inside
 
   low : c.from-low.result ≡ cut_of f i
-  low = c.from-low.ensures ∙ low-is c.args.opened.now c.requires.0 i here.inside
+  low = c.from-low.ensures ∙ low-is c.args.opened.now i here.inside
 
 pub walk_of-w-requires : goal.walk_of-w-requires
 walk_of-w-requires c =
     let g = (goal.at.walk_of-w-requires c).After-share-v in
-    (c.requires.0.accepted, (here g).inside, sized g, c.share-v.ensures, refl)
+    (c.args.opened.now.accepted, (here g).inside, sized g, c.share-v.ensures, refl)
 
 pub overflow_sub-x : goal.overflow_sub-x
 overflow_sub-x c =
@@ -47,13 +47,13 @@ sent_at-s-requires c =
 pub bit_number-bit-requires : goal.bit_number-bit-requires
 bit_number-bit-requires c =
     let g = (goal.at.bit_number-bit-requires c).After-share-v in (
-      c.requires.0.accepted.ranged.tti (i g) (here g).inside,
-      omega (arith, c.sent_at-s.ensures.within, sized g, sizes_most (f g) c.requires.0.accepted (i g) (here g).inside),
+      c.args.opened.now.accepted.ranged.tti (i g) (here g).inside,
+      omega (arith, c.sent_at-s.ensures.within, sized g, sizes_most (f g) c.args.opened.now.accepted (i g) (here g).inside),
     )
 
 pub returns : goal.returns
 returns c =
     let g = (goal.at.returns c).After-share-v in
     name-is (f g) c.args.frame.0 c.args.x (i g) c.channel_at-i.ensures.0 c.at-trch.ensures c.bit_number-bit.ensures
-    (stood (f g) c.requires.0.accepted c.args.frame.0 c.args.x (i g) (here g) c.walk_of-w.result c.walk_of-w.ensures (sized g)
+    (stood (f g) c.args.opened.now.accepted c.args.frame.0 c.args.x (i g) (here g) c.walk_of-w.result c.walk_of-w.ensures (sized g)
     (ap (λ (z : ℕ). c.args.x - z) (low g)) c.sent_at-s.ensures)

@@ -19,16 +19,16 @@ module _ (s : Start) where
   f = s.args.opened.now.fields
 
   below : read_from f s.args.h s.args.t s.args.k < capacity_all f
-  below = read_below f s.args.h s.args.t s.args.k s.requires.1 s.requires.2 s.requires.3
+  below = read_below f s.args.h s.args.t s.args.k s.requires.0 s.requires.1 s.requires.2
 
   inside : subframe_start f s.args.h + (slot_start f s.args.t + s.args.k) < capacity_all f
-  inside = bit-inside f s.args.h s.args.t s.args.k s.requires.1 s.requires.2 s.requires.3
+  inside = bit-inside f s.args.h s.args.t s.args.k s.requires.0 s.requires.1 s.requires.2
 
   shared : s.args.h * slot_capacity f s.args.t + s.args.k < subframes_of f * slot_capacity f s.args.t
-  shared = bit-shared f s.args.h s.args.t s.args.k s.requires.1 s.requires.2 s.requires.3
+  shared = bit-shared f s.args.h s.args.t s.args.k s.requires.0 s.requires.1 s.requires.2
 
   room : subframes_of f * slot_start f s.args.t + subframes_of f * slot_capacity f s.args.t ≤ most_bits
-  room = omega (arith, share_room f s.args.t s.requires.2, capacity_most f s.requires.0.accepted)
+  room = omega (arith, share_room f s.args.t s.requires.1, capacity_most f s.args.opened.now.accepted)
 
 -- mode 0: the bit's index in the frame
 over : (c : After-subframe_places-w)
@@ -98,7 +98,7 @@ source_at-requires-2 c =
 pub overflow_add-result : goal.overflow_add-result
 overflow_add-result c =
     let g = goal.at.overflow_add-result c in
-    omega (arith, (each g.After-source_at-2).1, capacity_most (f g.Start) c.requires.0.accepted)
+    omega (arith, (each g.After-source_at-2).1, capacity_most (f g.Start) c.args.opened.now.accepted)
 
 pub returns : goal.returns
 returns c = each (goal.at.returns c).After-source_at-2
