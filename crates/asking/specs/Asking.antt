@@ -9,8 +9,8 @@ use Rattle.sheet.specs.Numbers.{read_lines, read_number}
 use Rattle.sheet.specs.declared.Sheet.{Sheet}
 use Rattle.matching.specs.Shares.{share_of}
 use Rattle.looking.specs.Looking.{no_trch}
-use Rattle.asking.specs.declared.Sizes.{Sizes}
-use Rattle.asking.specs.declared.Channel.{Channel}
+use Rattle.asking.specs.declared.SheetSizes.{SheetSizes}
+use Rattle.asking.specs.declared.ChannelSizes.{ChannelSizes}
 
 -- what C is told
 pub record SizesAnswer : Type 0 where
@@ -62,24 +62,24 @@ abbrev pub channel_answer : List ℕ → ℕ → ChannelAnswer
 channel_answer s k = given (channel_number s k) (channel_in (sheet_of s) (k - 1)) (no_channel (channel_number s k))
 
 -- what the calls answer, in these terms
-abbrev pub sizes_given : Sizes → SizesAnswer
+abbrev pub sizes_given : SheetSizes → SizesAnswer
 sizes_given s = sizes_made 0 s.channels s.slots s.contents s.capacity s.joined
 
-abbrev pub no_sizes_found : Sizes
+abbrev pub no_sizes_found : SheetSizes
 no_sizes_found = record { channels = 0; slots = 0; contents = 0; capacity = 0; joined = 0 }
 
-abbrev pub sizes_left : Result Sizes Refusal → SizesAnswer
+abbrev pub sizes_left : Result SheetSizes Refusal → SizesAnswer
 sizes_left r =
     let s = value_or no_sizes_found r in
     sizes_made (number_of r) s.channels s.slots s.contents s.capacity s.joined
 
-abbrev pub channel_given : Channel → ChannelAnswer
+abbrev pub channel_given : ChannelSizes → ChannelAnswer
 channel_given c = channel_made 0 c.f c.e c.n c.v
 
-abbrev pub no_channel_found : Channel
+abbrev pub no_channel_found : ChannelSizes
 no_channel_found = record { f = 0; e = 0; n = 0; v = 0 }
 
-abbrev pub channel_left : Result Channel Refusal → ChannelAnswer
+abbrev pub channel_left : Result ChannelSizes Refusal → ChannelAnswer
 channel_left r =
     let c = value_or no_channel_found r in
     channel_made (number_of r) c.f c.e c.n c.v

@@ -9,7 +9,7 @@ use Rattle.sheet.specs.Numbers.{read_lines}
 use Rattle.sheet.specs.declared.Sheet.{Sheet}
 use Rattle.matching.specs.Shares.{cut_of, share_of, channel_part}
 use Rattle.looking.specs.Looking.{no_trch, not_long}
-use Rattle.asking.specs.declared.part.Part.{Part}
+use Rattle.asking.specs.declared.part.PartSpan.{PartSpan}
 
 -- what C is told
 pub record PartAnswer : Type 0 where
@@ -38,13 +38,13 @@ abbrev pub part_answer : List ℕ → ℕ → ℕ → PartAnswer
 part_answer s k n = given (part_number s k n) (part_in (sheet_of s) (k - 1)) (no_part (part_number s k n))
 
 -- what the call answers, in these terms
-abbrev pub part_given : Part → PartAnswer
+abbrev pub part_given : PartSpan → PartAnswer
 part_given p = part_made 0 p.start p.length
 
-abbrev pub no_part_found : Part
+abbrev pub no_part_found : PartSpan
 no_part_found = record { start = 0; length = 0 }
 
-abbrev pub part_left : Result Part Refusal → PartAnswer
+abbrev pub part_left : Result PartSpan Refusal → PartAnswer
 part_left r =
     let p = value_or no_part_found r in
     part_made (number_of r) p.start p.length

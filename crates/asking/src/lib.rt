@@ -16,7 +16,7 @@ use sheet::sizes::frames;
 
 // The sizes that a caller lends buffers by.
 #[derive(Clone, Copy)]
-pub struct Sizes {
+pub struct SheetSizes {
     // I and T.
     pub channels: u64,
     pub slots: u64,
@@ -26,12 +26,12 @@ pub struct Sizes {
     pub joined: u64,
 }
 
-impl Sizes {
+impl SheetSizes {
     // What C is told where the number is not 0.
-    pub fn none() -> Sizes
+    pub fn none() -> SheetSizes
         ensures { sizes_given result ≡ no_sizes 0 }
     {
-        Sizes {
+        SheetSizes {
             channels: 0,
             slots: 0,
             contents: 0,
@@ -43,18 +43,18 @@ impl Sizes {
 
 // F, E, N and V of a channel.
 #[derive(Clone, Copy)]
-pub struct Channel {
+pub struct ChannelSizes {
     pub f: u64,
     pub e: u64,
     pub n: u64,
     pub v: u64,
 }
 
-fn sizes_of(opened: &Opened) -> Sizes
+fn sizes_of(opened: &Opened) -> SheetSizes
     ensures { sizes_given result ≡ sizes_in opened.now.fields }
 {
     let fields = &opened.fields;
-    Sizes {
+    SheetSizes {
         channels: u64::from(fields.channels),
         slots: u64::from(fields.slots),
         contents: fields.all_encoded(),
@@ -64,19 +64,19 @@ fn sizes_of(opened: &Opened) -> Sizes
 }
 
 // The sizes of a sheet.
-pub fn sizes(bytes: &[u8]) -> Result<Sizes, Refusal>
+pub fn sizes(bytes: &[u8]) -> Result<SheetSizes, Refusal>
     ensures { (sizes_left result ≡ sizes_answer bytes.now) × (index_of result ≡ 0) }
 {
     let opened = open_sheet(bytes)?;
     Ok(sizes_of(&opened))
 }
 
-fn channel_of(opened: &Opened, i: usize) -> Channel
+fn channel_of(opened: &Opened, i: usize) -> ChannelSizes
     requires { i < opened.now.fields.channels }
     ensures { channel_given result ≡ channel_in opened.now.fields i }
 {
     let fields = &opened.fields;
-    Channel {
+    ChannelSizes {
         f: frames(fields.tti[i]),
         e: u64::from(fields.e[i]),
         n: u64::from(opened.sizes[i]),
@@ -85,7 +85,7 @@ fn channel_of(opened: &Opened, i: usize) -> Channel
 }
 
 // F, E, N and V of a channel.
-pub fn channel(bytes: &[u8], trch: TrchNumber) -> Result<Channel, Refusal>
+pub fn channel(bytes: &[u8], trch: TrchNumber) -> Result<ChannelSizes, Refusal>
     ensures { (channel_left result ≡ channel_answer bytes.now trch.0) × (index_of result ≡ 0) }
 {
     let opened = open_sheet(bytes)?;

@@ -10,8 +10,8 @@ ghost use Rattle.sending.specs.Building.{build_into, multiplex_into, spread_into
 
 use crate::telling::{number, tell};
 use asking::name::name;
-use asking::part::{Part, part};
-use asking::{Channel, Sizes, channel, sizes};
+use asking::part::{PartSpan, part};
+use asking::{ChannelSizes, SheetSizes, channel, sizes};
 use counters::refusal::Refusal;
 use counters::{BitNumber, FrameNumber, PhchNumber, TrchNumber};
 use looking::check_length;
@@ -73,7 +73,7 @@ pub fn umv_sizes(
     ensures { sizes_made result channels.new slots.new contents.new capacity.new joined.new ≡ sizes_answer bytes.now }
 {
     let answer = sizes(bytes);
-    let found = answer.unwrap_or(Sizes::none());
+    let found = answer.unwrap_or(SheetSizes::none());
     *channels = found.channels;
     *slots = found.slots;
     *contents = found.contents;
@@ -93,7 +93,7 @@ pub fn umv_channel(
     ensures { channel_made result f.new e.new n.new v.new ≡ channel_answer bytes.now trch }
 {
     let answer = channel(bytes, TrchNumber(trch));
-    let found = answer.unwrap_or(Channel {
+    let found = answer.unwrap_or(ChannelSizes {
         f: 0,
         e: 0,
         n: 0,
@@ -146,7 +146,7 @@ pub fn umv_part(
     ensures { part_made result start.new length.new ≡ part_answer bytes.now trch multiplexed_len }
 {
     let answer = part(bytes, TrchNumber(trch), multiplexed_len);
-    let found = answer.unwrap_or(Part {
+    let found = answer.unwrap_or(PartSpan {
         start: 0,
         length: 0,
     });

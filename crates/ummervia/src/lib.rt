@@ -7,8 +7,8 @@ mod telling;
 
 // Each call and its answer, out of the crate that it stands in.
 pub use asking::name::name;
-pub use asking::part::{Part, part, part_bits, part_soft};
-pub use asking::{Channel, Sizes, channel, sizes};
+pub use asking::part::{PartSpan, part, part_bits, part_soft};
+pub use asking::{ChannelSizes, SheetSizes, channel, sizes};
 pub use receiving::finishing::finish;
 pub use receiving::listening::{heard, link};
 pub use receiving::{gather, take_back};

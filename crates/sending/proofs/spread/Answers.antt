@@ -1,0 +1,22 @@
+use native.Mathlib.Omega.{arith}
+use Rattle.std.proofs.lemmas.Result.{err_from_is_err_and}
+use Rattle.counters.proofs.RefusalLaws.{refusal_positive}
+use Rattle.sheet.specs.Fields.{sheet_of}
+use Rattle.sheet.specs.Sizes.{capacity_all}
+use Rattle.sheet.specs.Numbers.{read_lines}
+use Rattle.frame.specs.Bit.{is_bit}
+use Rattle.looking.proofs.LookLaws.{early_read, looks_early, looked_no}
+use Prim.Native.Nat.{ℕ}
+use lib.ListN.{length}
+use Rattle.sending.proofs.spread.Goals as goal
+
+pub returns-in_err-opened : goal.returns-in_err-opened
+returns-in_err-opened c =
+    let a = c.args in
+    let p = err_from_is_err_and c.from_residual.result c.from_residual.ensures.1 in
+    let n = c.in_err-opened.ensures.number in
+    let r = c.in_err-opened.field-0.0 in
+    let s = a.bytes.now in
+    let d = capacity_all (sheet_of s) in
+    let l = looks_early is_bit (read_lines s) (early_read s) a.bits.now d (length a.out.now) d ℕ r n.0 n.1 in
+    rw (p.1, p.2) (looked_no _ _ _ _ _ l.0 (λ q. omega (arith, q, refusal_positive r)) l.1)
