@@ -1,4 +1,3 @@
 pub mod AskLaws
 pub mod PartLaws
-pub mod NameLaws
 pub mod Unique

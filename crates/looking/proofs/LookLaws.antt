@@ -9,7 +9,7 @@ use lib.Dec.{eqb, ltb}
 use Rattle.std.specs.Prelude.{Result, Err}
 use Rattle.laws.specs.FirstFail.{first_fail}
 use Rattle.laws.proofs.TestLaws.{or_left, or_right}
-use Rattle.counters.specs.Lines.{Line, line, first_of}
+use Rattle.counters.specs.Lines.{Line, line, first_of, given}
 use Rattle.counters.specs.Refusals.{refusal_number, refusal_at}
 use Rattle.counters.specs.declared.refusal.Refusal.{Refusal}
 use Rattle.counters.proofs.CountLaws.{both_true}
@@ -80,6 +80,21 @@ early_more b n (and_line x y e) p q = and_line x y (early_more b n e p q)
 
 pub early_frame : (s : List ℕ) (frame : ℕ) → Early (frame_lines s frame)
 early_frame s frame = early_more (ltb last_frame frame) 9 (early_read s) (omega arith) (λ q. omega arith)
+
+-- lines behind others: what the first list refuses stays so, and where it is clear the second's number is given
+pub number_first : (xs ys : List Line) (r : Refusal) → refusal_number r ≡ first_of xs → refusal_number r ≡ first_of (xs ++ ys)
+number_first xs ys r e = e ∙ first-append xs ys (λ q. omega (arith, e, q, refusal_positive r))
+
+pub number_second : {xs : List Line} (ys : List Line) → Numbered xs → 0 ≡ first_of xs → {n : ℕ} → n ≡ first_of ys → n ≡ first_of (xs ++ ys)
+number_second ys p z e = e ∙ sym (append_clear ys (clear_of p (sym z)))
+
+-- what is given with a refusal's number, and with 0
+module _ {X : Type 0} (n : ℕ) (yes no : X) where
+  pub given_refused : (r : Refusal) → refusal_number r ≡ n → no ≡ given n yes no
+  given_refused r e = sym (given_no n yes no (λ q. omega (arith, e, q, refusal_positive r)))
+
+  pub given_accepted : 0 ≡ n → yes ≡ given n yes no
+  given_accepted e = sym (given_yes n yes no (sym e))
 
 -- other lines, and then a look at lent values: refused by the lines, or by what was looked at
 module _ {A : Type 0} (test : A → Bool) (head : List Line) (early : Early head) (vs : List A) (needed n room : ℕ) where
