@@ -59,7 +59,7 @@ each c =
     let a = c.args in
     let g = (goal.at-After-source_at-2 c).After-subframes-all in
     let e =
-    read_each a.opened.now.fields a.h a.t a.k c.if-opened-eq0.false (begins g) (long g) (ap (λ (n : ℕ). n + a.k) (at g)) c.source_at-2.ensures.0
+    read_each a.opened.now.fields a.h a.t a.k (λ z. omega arith) (begins g) (long g) (ap (λ (n : ℕ). n + a.k) (at g)) c.source_at-2.ensures.0
     in
     (e, omega (arith, e, below (goal.at-After-source_at-2 c).Start))
 
@@ -80,7 +80,7 @@ pub returns-then-opened-eq0 : goal.returns-then-opened-eq0
 returns-then-opened-eq0 c =
     let a = c.args in
     let g = goal.at.returns-then-opened-eq0 c in
-    let e = read_over a.opened.now.fields a.h a.t a.k c.if-opened-eq0.true c.capacity-d.ensures.0 (over g.After-subframe_places-w) c.source_at.ensures.0 in
+    let e = read_over a.opened.now.fields a.h a.t a.k (omega arith) c.capacity-d.ensures.0 (over g.After-subframe_places-w) c.source_at.ensures.0 in
     (e, omega (arith, e, below g.Start))
 
 pub overflow_mul-result : goal.overflow_mul-result
