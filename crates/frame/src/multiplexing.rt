@@ -32,6 +32,7 @@ fn send(contents: &[u8], opened: &Opened, i: usize, frame: FrameNumber, out: &mu
 }
 
 // Channel after channel.
+#[tactic(auto, using(opening::proofs::OpenLaws::cut_rises, crate::proofs::SendLaws::cut_within, crate::proofs::SendLaws::content_within))]
 pub fn multiplex_bits(contents: &[u8], opened: &Opened, frame: FrameNumber, out: &mut [u8])
     requires { (length contents.now ≡ encoded_all opened.now.fields) × (length out.old ≡ capacity_all opened.now.fields) }
     ensures { out.new ≡ multiplexed_bits opened.now.fields frame.0 contents.now }

@@ -17,7 +17,7 @@ use Rattle.pattern.specs.Pattern.{as_is}
 use Rattle.frame.specs.Frame.{sent_of, bits_of, multiplexed, multiplexed_bits}
 use Rattle.laws.proofs.PartLaws.{part_length}
 use Rattle.frame.proofs.FrameLaws.{cuts_end}
-use Rattle.frame.proofs.SendLaws.{content_within, content_part, cut_share, cut_within, sent_more, sent_none}
+use Rattle.frame.proofs.SendLaws.{content_part, cut_share, cut_within, sent_more, sent_none}
 use Rattle.frame.proofs.multiplexing.multiplex_bits.Goals.{In-loop-i}
 use Rattle.frame.proofs.multiplexing.multiplex_bits.Goals as goal
 
@@ -41,25 +41,6 @@ module _ (c : In-loop-i) where
 pub loop-i-init : goal.loop-i-init
 unfolding sum_to joined
 loop-i-init c = (refl, sent_none c.args.opened.now.fields c.args.opened.now.accepted _)
-
-pub overflow_add-to : goal.overflow_add-to
-overflow_add-to c =
-    let g = (goal.at.overflow_add-to c).In-loop-i in
-    omega (arith, content_within (o g) (i g) (inside g) c.loop-i.invariant.0 c.from.ensures)
-
-pub slice_bounds-send-end : goal.slice_bounds-send-end
-slice_bounds-send-end c =
-    let g = (goal.at.slice_bounds-send-end c).In-loop-i in
-    omega (arith, content_within (o g) (i g) (inside g) c.loop-i.invariant.0 c.from.ensures)
-
-pub slice_bounds-send-count-in-loop-i : goal.slice_bounds-send-count-in-loop-i
-slice_bounds-send-count-in-loop-i c = omega (arith, up (goal.at.slice_bounds-send-count-in-loop-i c).In-loop-i)
-
-pub slice_bounds-send-start-in-loop-i : goal.slice_bounds-send-start-in-loop-i
-slice_bounds-send-start-in-loop-i c = omega (arith, up (goal.at.slice_bounds-send-start-in-loop-i c).In-loop-i)
-
-pub slice_bounds-send-end-in-loop-i : goal.slice_bounds-send-end-in-loop-i
-slice_bounds-send-end-in-loop-i c = omega (arith, last (goal.at.slice_bounds-send-end-in-loop-i c).In-loop-i)
 
 pub send-requires : goal.send-requires
 send-requires c =
