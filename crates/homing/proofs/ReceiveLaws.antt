@@ -1,17 +1,13 @@
 -- What was asked of the gathered values is what the definitions of coming home say of the frame.
 use mathlib.Core.Path.{◌≡◌, refl, ap}
 use mathlib.Core.List.{List}
-use Prim.Native.Nat.{ℕ, zero, suc, ◌<◌}
+use Prim.Native.Nat.{ℕ, zero, suc}
 use lib.Ieee.{Float, nan}
 use lib.Seq.{sets}
-use Rattle.sheet.specs.Sizes.{size_of}
 use Rattle.sheet.specs.declared.Sheet.{Sheet}
 use Rattle.matching.specs.Shares.{channel_part}
-use Rattle.joining.specs.declared.Heard.{Heard}
-use Rattle.joining.specs.declared.linking.Link.{Link}
 use Rattle.homing.specs.Gather.{gathered}
 use Rattle.homing.specs.Home.{heard_in, segment_home, segment_start, taken_to, taken_back_of, heard_at, link_in}
-use Rattle.homing.specs.declared.receiving.Reception.{Reception}
 use Rattle.homing.specs.Taking.{home_in, hear_in, survey_in, taken_from}
 
 module _ (sh : Sheet) (number : ℕ) (frame : List Float) where
@@ -32,10 +28,3 @@ module _ (sh : Sheet) (number : ℕ) (frame : List Float) where
   pub link_in_lem : (i : ℕ) → survey_in sh number i (channel_part sh i (gathered nan sh frame)) ≡ link_in sh number i frame
   unfolding survey_in link_in heard_in
   link_in_lem i = refl
-
-pub received_made : {h g : Heard} {l k : Link} → h ≡ g → l ≡ k → ◌≡◌ {A = Reception} (record { heard = h; link = l }) (record { heard = g; link = k })
-received_made p q = rw (p, q)
-
--- a channel and its bit, by their indices
-pub size-at : (sh : Sheet) {i j m n : ℕ} → i ≡ j → m ≡ n → j < sh.channels → n < size_of sh j → (i < sh.channels) × (m < size_of sh i)
-size-at sh p q a b = rw (p, q) (a, b)

@@ -32,22 +32,22 @@ use Rattle.homing.specs.Home.{channel_start, segment_start}
 use Rattle.homing.specs.Taking.{home_in, hear_in, survey_in, taken_from}
 
 module _ (sh : Sheet) (number i : ℕ) (w : Walk) (k : Walks sh number i w) (vs : List Float) where
-  shares : shared (signed_by w.less w.m) w.n w.e vs ≡ shared (change_of sh i) (size_of sh i) (start_at sh number i) vs
+  shares : shared (signed_by w.d.less w.d.size) w.n w.e vs ≡ shared (change_of sh i) (size_of sh i) (start_at sh number i) vs
   shares =
       ap₂ (λ (d : ℤ) (n : ℕ). shared d n w.e vs) k.change k.size
       ∙ shared_start (change_of sh i) (size_of sh i) w.e (start_at sh number i) vs
-      (λ a b. k.start a (let p : 0 < nat_abs (signed_by w.less w.m) = rw k.change b in rw (magnitude w.less w.m) at p))
+      (λ a b. k.start a (let p : 0 < nat_abs (signed_by w.d.less w.d.size) = rw k.change b in rw (magnitude w.d.less w.d.size) at p))
 
-  pub home_in_lem : {n : ℕ} {out : List Float} → n ≡ w.n → out ≡ home_of (signed_by w.less w.m) n w.e vs → out ≡ home_in sh number i vs
+  pub home_in_lem : {n : ℕ} {out : List Float} → n ≡ w.n → out ≡ home_of (signed_by w.d.less w.d.size) n w.e vs → out ≡ home_in sh number i vs
   unfolding home_in home_of heard_of
   home_in_lem p q =
-      q ∙ ap (λ (x : ℕ). home_of (signed_by w.less w.m) x w.e vs) p ∙ ap (λ (l : List (List Float)). map value_of (map join_of l)) shares
+      q ∙ ap (λ (x : ℕ). home_of (signed_by w.d.less w.d.size) x w.e vs) p ∙ ap (λ (l : List (List Float)). map value_of (map join_of l)) shares
 
-  pub hear_in_lem : (m : ℕ) {h : Heard} → h ≡ join_of (get_or (shared (signed_by w.less w.m) w.n w.e vs) m []) → h ≡ hear_in sh number i m vs
+  pub hear_in_lem : (m : ℕ) {h : Heard} → h ≡ join_of (get_or (shared (signed_by w.d.less w.d.size) w.n w.e vs) m []) → h ≡ hear_in sh number i m vs
   unfolding hear_in
   hear_in_lem m q = q ∙ ap (λ (l : List (List Float)). join_of (get_or l m [])) shares
 
-  pub survey_in_lem : {l : Link} → l ≡ link_of (heard_of (signed_by w.less w.m) w.n w.e vs) → l ≡ survey_in sh number i vs
+  pub survey_in_lem : {l : Link} → l ≡ link_of (heard_of (signed_by w.d.less w.d.size) w.n w.e vs) → l ≡ survey_in sh number i vs
   unfolding survey_in heard_of
   survey_in_lem q = q ∙ ap (λ (l : List (List Float)). link_of (map join_of l)) shares
 
@@ -70,6 +70,6 @@ module _ (o : Opened) (h : Opens o) (number : ℕ) (ms old l : List Float) (i ba
         ∙ ap (λ (k : ℕ). taken_from sh number ms k old) (sym (add-one i))
 
 -- the channel's part by its cuts
-pub part_at : {A : Type 0} (o : Opened) → Opens o → (i : ℕ) → i < o.fields.channels → (xs : List A)
-    → take (get_or o.cuts (i + 1) 0 - get_or o.cuts i 0) (drop (get_or o.cuts i 0) xs) ≡ channel_part o.fields i xs
-part_at o h i l xs = ap₂ (λ (n k : ℕ). take n (drop k xs)) (cut_share o h i l) (low-is o h i l)
+pub part_at : {A : Type 0} (o : Opened) → Opens o → (i : ℕ) → i < o.fields.channels → (xs : List A) {a z : ℕ} → a ≡ get_or o.cuts i 0
+    → z ≡ get_or o.cuts (i + 1) 0 → take (z - a) (drop a xs) ≡ channel_part o.fields i xs
+part_at o h i l xs ea ez = ap₂ (λ (n k : ℕ). take n (drop k xs)) (ap₂ ◌-◌ ez ea ∙ cut_share o h i l) (ea ∙ low-is o h i l)

@@ -174,25 +174,24 @@ module _ (sh : Sheet) {h t a : ℕ} (ea : a ≡ slot_start sh t) (m : h < subfra
       ap₂ (λ (u v : ℕ). take u (drop v xs)) n e
 
   -- what is undone of it
-  pub slot_undone_lem : {A : Type 0} (z : A) (xs : List A) {r : Runs} → RunsAt sh t r → {caps : List ℕ} → caps ≡ sh.caps
-      → slot_undone (in_runs r.first r.other) (take (s.to - s.from) (drop s.from caps)) z (take (y - x) (drop x xs)) ≡ part_unmapped z sh xs h t
-  slot_undone_lem {A} z xs k ec =
-      rw (ec, caps_lent sh t ea p) (ap₂ (λ (B : ℕ → ℕ) (w : List A). slot_undone B (caps_of sh t) z w) (sym k.runs) (frame_lent xs))
+  pub slot_undone_lem : {A : Type 0} (z : A) (xs : List A) {r : Runs} → RunsAt sh t r
+      → slot_undone (in_runs r.first r.other) (take (s.to - s.from) (drop s.from sh.caps)) z (take (y - x) (drop x xs)) ≡ part_unmapped z sh xs h t
+  slot_undone_lem {A} z xs k =
+      rw (caps_lent sh t ea p) (ap₂ (λ (B : ℕ → ℕ) (w : List A). slot_undone B (caps_of sh t) z w) (sym k.runs) (frame_lent xs))
 
 -- one slot more, whose block was lent and came back as v
 module _ {A : Type 0} (z : A) (sh : Sheet) (ok : Accepted sh) (xs : List A) {out : List A} {h t a : ℕ} (i : ThroughAt sh (part_unmapped z sh xs) out h t a)
     (m : h < subframes_of sh) (l : t < sh.slots) {most : ℕ} {s : Span} (p : Spans sh.phchs sh.caps t a most s)
     {w x y : ℕ} (ew : w ≡ places_all sh) (ex : x ≡ h * w + a) (ey : y ≡ h * w + s.end) where
-  pub slots_through : {r : Runs} → RunsAt sh t r → {caps : List ℕ} → caps ≡ sh.caps → {b : Block} → b ≡ slot_block sh h t → {n : ℕ} → n ≡ slot_capacity sh t → (v : List A)
+  pub slots_through : {r : Runs} → RunsAt sh t r → {b : Block} → b ≡ slot_block sh h t → {n : ℕ} → n ≡ slot_capacity sh t → (v : List A)
       → length v ≡ length (block_in b out)
       → second_interleaved v
-      ≡ put_mid b.at n (second_interleaved (block_in b out)) (slot_undone (in_runs r.first r.other) (take (s.to - s.from) (drop s.from caps)) z (take (y - x) (drop x xs)))
-      → ThroughAt sh (part_unmapped z sh xs) (put_mid b.from (b.to - b.from) out v) h s.next s.end
-  slots_through k ec {b} eb {n} en v nv e =
-      let q = slot_undone_lem sh i.begins m l p ew ex ey z xs k ec in
-      rw p.next
-      (record {
+      ≡ put_mid b.at n (second_interleaved (block_in b out)) (slot_undone (in_runs r.first r.other) (take (s.to - s.from) (drop s.from sh.caps)) z (take (y - x) (drop x xs)))
+      → ThroughAt sh (part_unmapped z sh xs) (put_mid b.from (b.to - b.from) out v) h (t + 1) s.end
+  slots_through k {b} eb {n} en v nv e =
+      let q = slot_undone_lem sh i.begins m l p ew ex ey z xs k in
+      record {
         some = omega arith;
         begins = p.end ∙ sum_more (slot_capacity sh) t i.begins refl;
         through = through-turn i.through m l eb en v nv (long-taken z sh ok xs h t m l) refl (e ∙ ap (put_mid b.at n (second_interleaved (block_in b out))) q);
-      })
+      }

@@ -1,10 +1,8 @@
 // Steps 7 and 6 undone, channel after channel, out of multiplexed values.
 ghost use Rattle.std.specs.Prelude.{◌≡◌, ◌+◌, ◌*◌, ◌%◌, ◌≤◌, ◌<◌, length};
 ghost use Rattle.sheet.specs.Counts.{most_frames, most_encoded};
-ghost use Rattle.sheet.specs.Fields.{tti_of};
 ghost use Rattle.sheet.specs.Sizes.{size_of, capacity_all, equalised_all};
-ghost use Rattle.sheet.specs.Range.{Accepted};
-ghost use Rattle.matching.specs.Shares.{share_of};
+ghost use Rattle.matching.specs.Shares.{share_of, channel_part};
 ghost use Rattle.opening.specs.Opened.{Opens};
 ghost use Rattle.frame.specs.Walk.{Walks};
 ghost use Rattle.homing.specs.Home.{taken_count};
@@ -17,60 +15,64 @@ use joining::linking::{Link, link_segment};
 use joining::{Heard, hearing};
 use opening::Opened;
 use sheet::sizes::frames;
-use sheet::{Sheet, count, wide};
 
-// The joined values of channel i's segment of n, out of its values as they were sent. Of n, and not of the segment's length, the compiler knows that 16 bits
-// hold it, and divides in fewer.
-fn take_channel(
-    values: &[f32],
-    fields: Sheet,
-    i: usize,
-    n: u64,
-    tti: u16,
-    number: FrameNumber,
-    segment: &mut [f32],
-)
-    requires { Accepted fields × (i < fields.channels) × (n ≡ size_of fields i) × (tti ≡ tti_of fields i) × (length values.now ≡ share_of fields i) × (length segment.old ≡ size_of fields i) }
-    ensures { segment.new ≡ home_in fields number.0 i values.now }
+// A channel's part of multiplexed values.
+pub(crate) fn part<'a>(values: &'a [f32], opened: &Opened, i: usize) -> &'a [f32]
+    requires { Opens opened.now × (length values.now ≡ capacity_all opened.now.fields) × (i < opened.now.fields.channels) }
+    ensures { (result.now ≡ channel_part opened.now.fields i values.now) × (length result.now ≡ share_of opened.now.fields i) }
 {
-    let w = walk_of(fields, i, n, values.len() as u64, tti, number);
-    join_segment(values, segment, w.e, w.less, w.m);
+    let a = usize::from(opened.cuts[i]);
+    let z = usize::from(opened.cuts[i + 1]);
+    &values[a..z]
 }
 
-// The walk of one channel alone, of which v values were sent.
-fn walk_one(opened: Opened, i: usize, v: u64, number: FrameNumber) -> Walk
-    requires { Opens opened × (i < opened.fields.channels) × (v ≡ share_of opened.fields i) }
-    ensures { Walks opened.fields number.0 i result }
+// The walk of channel i. N is not asked of a segment's length: of what the sheet says the compiler knows that 16 bits hold it, and divides in fewer.
+fn walk(opened: &Opened, i: usize, number: FrameNumber) -> Walk
+    requires { Opens opened.now × (i < opened.now.fields.channels) }
+    ensures { Walks opened.now.fields number.0 i result }
 {
-    let fields = opened.fields;
-    let sizes = opened.sizes;
-    let n = wide(sizes[i]);
-    let ttis = fields.tti;
-    walk_of(fields, i, n, v, ttis[i], number)
+    let n = u64::from(opened.sizes[i]);
+    walk_of(
+        &opened.fields,
+        i,
+        n,
+        opened.share(i),
+        opened.fields.tti[i],
+        number,
+    )
+}
+
+// The joined values of channel i's segment, out of its values as they were sent.
+fn take_channel(values: &[f32], opened: &Opened, i: usize, number: FrameNumber, segment: &mut [f32])
+    requires { Opens opened.now × (i < opened.now.fields.channels) × (length values.now ≡ share_of opened.now.fields i) × (length segment.old ≡ size_of opened.now.fields i) }
+    ensures { segment.new ≡ home_in opened.now.fields number.0 i values.now }
+{
+    let w = walk(opened, i, number);
+    join_segment(values, segment, w.e, w.d);
 }
 
 // What was heard of bit m, from 0, of channel i's segment.
 pub fn hear_channel(
     values: &[f32],
-    opened: Opened,
+    opened: &Opened,
     i: usize,
     number: FrameNumber,
     m: usize,
 ) -> Heard
-    requires { Opens opened × (i < opened.fields.channels) × (length values.now ≡ share_of opened.fields i) × (m < size_of opened.fields i) }
-    ensures { result ≡ hear_in opened.fields number.0 i m values.now }
+    requires { Opens opened.now × (i < opened.now.fields.channels) × (length values.now ≡ share_of opened.now.fields i) × (m < size_of opened.now.fields i) }
+    ensures { result ≡ hear_in opened.now.fields number.0 i m values.now }
 {
-    let w = walk_one(opened, i, values.len() as u64, number);
-    hearing::hear_bit(values, w.n, w.e, w.less, w.m, m)
+    let w = walk(opened, i, number);
+    hearing::hear_bit(values, w.n, w.e, w.d, m)
 }
 
 // The link record of channel i.
-pub fn survey_channel(values: &[f32], opened: Opened, i: usize, number: FrameNumber) -> Link
-    requires { Opens opened × (i < opened.fields.channels) × (length values.now ≡ share_of opened.fields i) }
-    ensures { result ≡ survey_in opened.fields number.0 i values.now }
+pub fn survey_channel(values: &[f32], opened: &Opened, i: usize, number: FrameNumber) -> Link
+    requires { Opens opened.now × (i < opened.now.fields.channels) × (length values.now ≡ share_of opened.now.fields i) }
+    ensures { result ≡ survey_in opened.now.fields number.0 i values.now }
 {
-    let w = walk_one(opened, i, values.len() as u64, number);
-    link_segment(values, w.n, w.e, w.less, w.m)
+    let w = walk(opened, i, number);
+    link_segment(values, w.n, w.e, w.d)
 }
 
 // Where the frame's segment of `size` begins among the f of a channel.
@@ -82,52 +84,35 @@ fn segment_from(f: u64, size: usize, number: FrameNumber) -> usize
 }
 
 // Every channel's segment of this frame, into a buffer of all T_i.
-pub fn take_segments(values: &[f32], opened: Opened, number: FrameNumber, joined: &mut [f32])
-    requires { Opens opened × (length values.now ≡ capacity_all opened.fields) × (length joined.old ≡ equalised_all opened.fields) }
-    ensures { joined.new ≡ taken_from opened.fields number.0 values.now opened.fields.channels joined.old }
+pub fn take_segments(values: &[f32], opened: &Opened, number: FrameNumber, joined: &mut [f32])
+    requires { Opens opened.now × (length values.now ≡ capacity_all opened.now.fields) × (length joined.old ≡ equalised_all opened.now.fields) }
+    ensures { joined.new ≡ taken_from opened.now.fields number.0 values.now opened.now.fields.channels joined.old }
 {
-    let fields = opened.fields;
-    let ttis = fields.tti;
-    let sizes = opened.sizes;
-    let cuts = opened.cuts;
-    let n = count(fields.channels);
     let mut base: usize = 0;
-    let mut i: usize = 0;
-    while i < n {
-        let size = sizes[i] as usize;
-        let tti = ttis[i];
-        let f = frames(tti);
+    for i in 0..usize::from(opened.fields.channels) {
+        let size = usize::from(opened.sizes[i]);
+        let f = frames(opened.fields.tti[i]);
         let at = base + segment_from(f, size, number);
         let to = at + size;
-        let a = cuts[i] as usize;
-        let z = cuts[i + 1] as usize;
         take_channel(
-            &values[a..z],
-            fields,
+            part(values, opened, i),
+            opened,
             i,
-            size as u64,
-            tti,
             number,
             &mut joined[at..to],
         );
         base += f as usize * size;
-        i += 1;
     }
 }
 
 // How many values those segments have: the sum of N.
-pub fn count_taken(opened: Opened) -> u64
-    requires { Opens opened }
-    ensures { result ≡ taken_count opened.fields }
+pub fn count_taken(opened: &Opened) -> u64
+    requires { Opens opened.now }
+    ensures { result ≡ taken_count opened.now.fields }
 {
-    let fields = opened.fields;
-    let sizes = opened.sizes;
-    let n = count(fields.channels);
     let mut sum: u64 = 0;
-    let mut i: usize = 0;
-    while i < n {
-        sum += sizes[i] as u64;
-        i += 1;
+    for i in 0..usize::from(opened.fields.channels) {
+        sum += u64::from(opened.sizes[i]);
     }
     sum
 }

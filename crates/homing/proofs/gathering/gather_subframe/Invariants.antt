@@ -1,4 +1,3 @@
-use Prim.Native.Nat.{◌-◌}
 use lib.Ieee.{nan}
 use Rattle.homing.specs.Gather.{part_unmapped}
 use Rattle.homing.specs.Pieces.{ThroughAt}
@@ -6,6 +5,3 @@ use Rattle.homing.proofs.gathering.gather_subframe.Given as goal
 
 abbrev pub invariant-loop-t : goal.invariant-loop-t
 invariant-loop-t l = ThroughAt l.fields (part_unmapped nan l.fields l.frame) l.out l.h l.t l.a
-
-abbrev pub decreases-loop-t : goal.decreases-loop-t
-decreases-loop-t l = l.fields.slots - l.t

@@ -1,12 +1,7 @@
-use Prim.Native.Nat.{◌-◌}
 use lib.Ieee.{nan}
-use Rattle.sheet.specs.Sizes.{subframes_of}
 use Rattle.homing.specs.Gather.{part_unmapped}
 use Rattle.homing.specs.Pieces.{Through}
 use Rattle.homing.proofs.gathering.gather_values.Given as goal
 
 abbrev pub invariant-loop-h : goal.invariant-loop-h
 invariant-loop-h l = Through l.fields (part_unmapped nan l.fields l.frame) l.out l.h 0
-
-abbrev pub decreases-loop-h : goal.decreases-loop-h
-decreases-loop-h l = subframes_of l.fields - l.h

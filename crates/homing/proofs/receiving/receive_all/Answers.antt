@@ -1,25 +1,20 @@
-use mathlib.Core.Path.{◌∙◌}
-use Rattle.homing.specs.Receiving.{Askable, received_into}
+use native.Mathlib.Omega.{arith}
+use mathlib.Core.Path.{◌≡◌, ◌∙◌}
+use Rattle.std.proofs.lemmas.Grind.{common_steps}
+use lib.Ieee.{nan}
+use Rattle.homing.specs.Gather.{gathered}
+use Rattle.homing.specs.Taking.{taken_from}
+use Rattle.homing.proofs.GatherLaws.{length-gathered}
 use Rattle.homing.proofs.ReceiveLaws.{taken_back}
-use borrow.Author.Rules.{rules}
 use Rattle.homing.proofs.receiving.receive_all.Goals as goal
 
-pub receive_near-requires : goal.receive_near-requires
-unfolding Askable
-receive_near-requires c = search rules
+pub receive-requires : goal.receive-requires
+receive-requires c =
+    let n = length-gathered nan c.args.opened.now.fields c.requires.0.accepted c.args.frame.now in
+    (c.requires.0.accepted, c.requires.1, grind (arith, common_steps))
 
-pub receive_far-requires : goal.receive_far-requires
-unfolding Askable
-receive_far-requires c = search rules
-
-pub returns-then-frame-le-MIDDLE : goal.returns-then-frame-le-MIDDLE
-unfolding received_into
-returns-then-frame-le-MIDDLE c =
-    let a = c.args in
-    c.receive_near.ensures.1 ∙ taken_back a.opened.fields a.number.0 a.frame.now a.joined.now
-
-pub returns-else-frame-le-MIDDLE : goal.returns-else-frame-le-MIDDLE
-unfolding received_into
-returns-else-frame-le-MIDDLE c =
-    let a = c.args in
-    c.receive_far.ensures.1 ∙ taken_back a.opened.fields a.number.0 a.frame.now a.joined.now
+pub returns : goal.returns
+returns c =
+    let o = c.args.opened.now in
+    let e = taken_back o.fields c.args.number.0 c.args.frame.now c.args.joined.now in
+    rw (← e) (grind (arith, common_steps))

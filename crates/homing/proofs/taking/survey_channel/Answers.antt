@@ -4,10 +4,10 @@ use Rattle.homing.proofs.taking.survey_channel.Goals as goal
 
 pub link_segment-requires : goal.link_segment-requires
 link_segment-requires c =
-    let w = c.walk_one-w in
-    fits_by c.args.opened.fields c.args.number.0 c.args.i w.result w.ensures w.ensures.size c.requires.2
+    let w = c.walk-w in
+    fits_by c.args.opened.now.fields c.args.number.0 c.args.i w.result w.ensures w.ensures.size c.requires.2
 
 pub returns : goal.returns
 returns c =
-    let w = c.walk_one-w in
-    survey_in_lem c.args.opened.fields c.args.number.0 c.args.i w.result w.ensures c.args.values.now c.link_segment.ensures
+    let w = c.walk-w in
+    survey_in_lem c.args.opened.now.fields c.args.number.0 c.args.i w.result w.ensures c.args.values.now c.link_segment.ensures

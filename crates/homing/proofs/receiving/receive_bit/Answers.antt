@@ -1,0 +1,19 @@
+use native.Mathlib.Omega.{arith}
+use mathlib.Core.Path.{◌≡◌, ◌∙◌}
+use Rattle.std.proofs.lemmas.Grind.{common_steps}
+use lib.Ieee.{nan}
+use Rattle.homing.specs.Gather.{gathered}
+use Rattle.homing.proofs.GatherLaws.{length-gathered}
+use Rattle.homing.proofs.ReceiveLaws.{heard-at}
+use Rattle.homing.proofs.receiving.receive_bit.Goals as goal
+
+pub receive-requires : goal.receive-requires
+receive-requires c =
+    let n = length-gathered nan c.args.opened.now.fields c.requires.0.accepted c.args.frame.now in
+    (c.requires.0.accepted, c.requires.1, grind (arith, common_steps))
+
+pub returns : goal.returns
+returns c =
+    let o = c.args.opened.now in
+    let e = heard-at o.fields c.args.number.0 c.args.frame.now c.args.i c.args.m in
+    rw (← e) (grind (arith, common_steps))
