@@ -70,10 +70,6 @@ blocks_clear sh i j h t l e = by (eqb sh.mode 0) e (dec_lt j t) (dec_lt t j)
 
 -- ---- slot after slot: what the loops hold
 
--- before the first
-pub through-none : {A : Type 0} (sh : Sheet) (g : ℕ → ℕ → List A) (out : List A) → length out ≡ capacity_all sh → Through sh g out 0 0
-through-none sh g out n = record { long = n; done = λ i j l. ⊎_elim (λ o. absurd (omega arith)) (λ o. absurd (omega (arith, o.1))) }
-
 module _ {A : Type 0} {sh : Sheet} {g : ℕ → ℕ → List A} {out : List A} {h : ℕ} where
   -- one more of a sub-frame: y is written into its block, which comes back as v
   module _ {t : ℕ} (p : Through sh g out h t) (m : h < subframes_of sh) (l : t < sh.slots) {b : Block} (eb : b ≡ slot_block sh h t) {n : ℕ} (en : n ≡ slot_capacity sh t)
@@ -134,19 +130,7 @@ module _ {A : Type 0} {sh : Sheet} {g : ℕ → ℕ → List A} {out : List A} {
         here i j o x (yes u) w = kept i j o (inr (x, u))
         here i j o x (no u) w = let z : j ≡ t = omega arith in rw (x, z) put
 
-  -- all of a sub-frame
-  pub through-row : {t : ℕ} → Through sh g out h t → sh.slots ≤ t → Through sh g out (h + 1) 0
-  through-row {t} p l =
-      record {
-        long = p.long;
-        done = λ i j o. ⊎_elim (λ x. p.done i j o (side i j o x (dec_lt i h))) (λ x. absurd (omega (arith, x.1)));
-      }
-    where
-      side : (i j : ℕ) → j < sh.slots → i < h + 1 → Dec (i < h) → Earlier i j h t
-      side i j o x (yes u) = inl u
-      side i j o x (no u) = inr (omega arith, omega arith)
-
--- and of all
+-- after the last sub-frame
 pub through-end : {A : Type 0} (z : A) (sh : Sheet) (xs : List A) {out : List A} {h : ℕ} → Through sh (part_unmapped z sh xs) out h 0 → subframes_of sh ≤ h → out ≡ gathered z sh xs
 unfolding gathered unmapped_slots
 through-end z sh xs {out} p l =

@@ -84,7 +84,7 @@ pub fn receive_all(frame: &[f32], opened: &Opened, number: FrameNumber, joined: 
     receive(
         frame,
         &opened.fields,
-        &mut |values| { take_segments(values, opened, number, joined) },
+        &mut |values| take_segments(values, opened, number, joined),
     );
 }
 
@@ -96,7 +96,7 @@ pub fn receive_bit(frame: &[f32], opened: &Opened, number: FrameNumber, i: usize
     receive(
         frame,
         &opened.fields,
-        &mut |values| { hear_channel(part(values, opened, i), opened, i, number, m) },
+        &mut |values| hear_channel(part(values, opened, i), opened, i, number, m),
     )
 }
 
@@ -108,6 +108,6 @@ pub fn receive_link(frame: &[f32], opened: &Opened, number: FrameNumber, i: usiz
     receive(
         frame,
         &opened.fields,
-        &mut |values| { survey_channel(part(values, opened, i), opened, i, number) },
+        &mut |values| survey_channel(part(values, opened, i), opened, i, number),
     )
 }

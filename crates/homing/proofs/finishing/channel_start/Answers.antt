@@ -6,9 +6,6 @@ use Rattle.homing.proofs.finishing.channel_start.Goals as goal
 pub loop-j-init : goal.loop-j-init
 loop-j-init c = summed_none _ _ _
 
-pub equalised-sum-requires : goal.equalised-sum-requires
-equalised-sum-requires c = c.requires.0.tti c.loop-j.j (omega arith)
-
 pub loop-j-preserved : goal.loop-j-preserved
 loop-j-preserved c = summed_more c.loop-j.invariant (omega arith) c.equalised-sum.ensures.0 c.equalised-sum.ensures.1
 

@@ -1,14 +1,8 @@
 use native.Mathlib.Omega.{arith}
-use mathlib.Core.Path.{◌≡◌, ◌∙◌}
-use Prim.Native.Nat.{◌+◌, ◌≤◌}
-use lib.ListN.{length, get_or}
-use Rattle.sheet.specs.Sizes.{size_of}
+use mathlib.Core.Path.{◌∙◌}
 use Rattle.opening.proofs.OpenLaws.{size_is}
 use Rattle.homing.proofs.FinishLaws.{part_ends, part_finishes, part-finished}
 use Rattle.homing.proofs.finishing.finish_channel.Goals as goal
-
-pub equalised-requires : goal.equalised-requires
-equalised-requires c = c.requires.0.accepted.ranged.tti c.args.i c.requires.1
 
 pub slice_bounds-finish-end : goal.slice_bounds-finish-end
 slice_bounds-finish-end c =

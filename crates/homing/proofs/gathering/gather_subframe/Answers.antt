@@ -1,17 +1,16 @@
 use native.Mathlib.Omega.{arith}
-use mathlib.Core.Path.{◌≡◌, refl, sym, ap, ◌∙◌}
+use mathlib.Core.Path.{◌≡◌, refl, ap, ◌∙◌}
 use Prim.Native.Nat.{ℕ, ◌+◌, ◌*◌, ◌-◌, ◌≤◌, ◌<◌}
 use lib.Ieee.{nan}
 use lib.ListN.{length, take, drop}
-use Rattle.laws.proofs.FallLaws.{part_ends}
-use Rattle.sheet.specs.Sizes.{slot_capacity, places_all, subframes_of, capacity_all}
+use Rattle.sheet.specs.Sizes.{slot_capacity, capacity_all}
 use Rattle.sheet.specs.declared.Sheet.{Sheet}
 use Rattle.opening.proofs.OpenLaws.{capacity_most}
 use Rattle.frame.specs.Slots.{slot_block}
 use Rattle.frame.proofs.FrameLaws.{length-slot-part}
-use Rattle.frame.proofs.SpreadLaws.{places-within, span_asks, slot-fits}
+use Rattle.frame.proofs.SpreadLaws.{span_asks, slot-fits}
 use Rattle.frame.proofs.BlockLaws.{Lies, block_in, block_is, block_lies, block_long}
-use Rattle.homing.proofs.ThroughLaws.{frame_ends, frame_lent, through-row, slots_begin, slots_through}
+use Rattle.homing.proofs.ThroughLaws.{frame_ends, frame_lent, slots_begin, slots_through}
 use Rattle.homing.proofs.gathering.gather_subframe.Goals.{After-block_of-b}
 use Rattle.homing.proofs.gathering.gather_subframe.Goals as goal
 
@@ -50,25 +49,11 @@ module _ (c : After-block_of-b) where
       ap length (frame_lent sh c.loop-t.invariant.begins c.requires.2 inside c.span_of-s.ensures c.subframe_places-w.ensures refl refl c.args.frame.now)
       ∙ length-slot-part sh t inside c.args.frame.now c.requires.1 c.args.h c.requires.2
 
-pub overflow_mul-start : goal.overflow_mul-start
-overflow_mul-start c = omega (arith, c.subframe_places-w.ensures, ap (λ (n : ℕ). c.args.h * n) c.subframe_places-w.ensures, part_ends c.args.h (subframes_of c.args.fields.now) (places_all c.args.fields.now) c.requires.2, c.requires.1)
-
 pub loop-t-init : goal.loop-t-init
 loop-t-init c = slots_begin _ _ _ _ c.requires.3
 
 pub span_of-s-requires : goal.span_of-s-requires
 span_of-s-requires c = span_asks c.args.fields.now c.loop-t.t c.loop-t.invariant.begins c.requires.0 (omega arith) (omega (arith, c.subframe_places-w.ensures))
-
-pub block_of-b-requires : goal.block_of-b-requires
-block_of-b-requires c =
-    let k = c.subframes-k.ensures in
-    let w = c.subframe_places-w.ensures in (
-      k.2,
-      omega (arith, k.0, c.requires.2),
-      omega (arith, w, places-within c.args.fields.now, capacity_most c.args.fields.now c.requires.0),
-      omega (arith, c.span_of-s.ensures.end),
-      c.span_of-s.ensures.within,
-    )
 
 pub offset_bounds-out-b : goal.offset_bounds-out-b
 offset_bounds-out-b c =
@@ -98,6 +83,3 @@ loop-t-preserved c =
     let g = (goal.at.loop-t-preserved c).After-block_of-b in
     slots_through nan (sh g) c.requires.0 c.args.frame.now c.loop-t.invariant c.requires.2 (inside g) c.span_of-s.ensures c.subframe_places-w.ensures refl refl
     c.runs_at.ensures (block g) (size g) _ c.out-1.given.0 c.unmap_slot.ensures
-
-pub returns : goal.returns
-returns c = through-row c.loop-t.invariant.through (omega arith)

@@ -1,9 +1,6 @@
 use native.Mathlib.Omega.{arith}
-use mathlib.Core.Path.{◌≡◌, ◌∙◌}
 use Rattle.std.proofs.lemmas.Grind.{common_steps}
 use lib.Ieee.{nan}
-use Rattle.homing.specs.Gather.{gathered}
-use Rattle.homing.specs.Taking.{taken_from}
 use Rattle.homing.proofs.GatherLaws.{length-gathered}
 use Rattle.homing.proofs.ReceiveLaws.{taken_back}
 use Rattle.homing.proofs.receiving.receive_all.Goals as goal

@@ -1,8 +1,6 @@
 use native.Mathlib.Omega.{arith}
-use mathlib.Core.Path.{◌≡◌, ◌∙◌}
 use Rattle.std.proofs.lemmas.Grind.{common_steps}
 use lib.Ieee.{nan}
-use Rattle.homing.specs.Gather.{gathered}
 use Rattle.homing.proofs.GatherLaws.{length-gathered}
 use Rattle.homing.proofs.ReceiveLaws.{link_in_lem}
 use Rattle.homing.proofs.receiving.receive_link.Goals as goal

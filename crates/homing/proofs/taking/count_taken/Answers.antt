@@ -1,5 +1,5 @@
 use native.Mathlib.Omega.{arith}
-use mathlib.Core.Path.{◌≡◌, ap, ◌∙◌}
+use mathlib.Core.Path.{ap, ◌∙◌}
 use lib.ListN.{get_or}
 use Rattle.laws.specs.Sums.{sum_to}
 use Rattle.laws.proofs.SumLaws.{summed_none, summed_more, summed_all, sum_same}

@@ -1,11 +1,5 @@
-use Rattle.frame.proofs.SendLaws.{fits_by}
 use Rattle.homing.proofs.TakeLaws.{survey_in_lem}
 use Rattle.homing.proofs.taking.survey_channel.Goals as goal
-
-pub link_segment-requires : goal.link_segment-requires
-link_segment-requires c =
-    let w = c.walk-w in
-    fits_by c.args.opened.now.fields c.args.number.0 c.args.i w.result w.ensures w.ensures.size c.requires.2
 
 pub returns : goal.returns
 returns c =

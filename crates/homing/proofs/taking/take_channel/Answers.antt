@@ -1,12 +1,6 @@
 use mathlib.Core.Path.{sym, ◌∙◌}
-use Rattle.frame.proofs.SendLaws.{fits_by}
 use Rattle.homing.proofs.TakeLaws.{home_in_lem}
 use Rattle.homing.proofs.taking.take_channel.Goals as goal
-
-pub join_segment-requires : goal.join_segment-requires
-join_segment-requires c =
-    let w = c.walk-w in
-    fits_by c.args.opened.now.fields c.args.number.0 c.args.i w.result w.ensures c.requires.3 c.requires.2
 
 pub returns : goal.returns
 returns c =

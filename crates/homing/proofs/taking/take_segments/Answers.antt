@@ -50,9 +50,6 @@ pub loop-i-init : goal.loop-i-init
 unfolding sum_to channel_start taken_from
 loop-i-init c = (refl, refl)
 
-pub frames-f-requires : goal.frames-f-requires
-frames-f-requires c = c.requires.0.accepted.ranged.tti c.loop-i.i (omega arith)
-
 pub segment_from-requires : goal.segment_from-requires
 segment_from-requires c =
     let o = c.args.opened.now in
@@ -80,14 +77,6 @@ take_channel-requires c =
     let g = (goal.at.take_channel-requires c).After-segment_from in
     (c.requires.0, inside g, c.part.ensures.1, omega (arith, long g, size g))
 
-pub overflow_mul-base : goal.overflow_mul-base
-overflow_mul-base c = omega (arith, c.segment_from.ensures.2)
-
-pub overflow_add-base : goal.overflow_add-base
-overflow_add-base c =
-    let g = (goal.at.overflow_add-base c).After-segment_from in
-    omega (arith, end g, whole g)
-
 pub loop-i-preserved : goal.loop-i-preserved
 unfolding channel_start
 loop-i-preserved c =
@@ -101,10 +90,3 @@ loop-i-preserved c =
       taken_next (o g) c.requires.0 n c.args.values.now c.args.joined.now l.joined (i g) l.base c.segment_from.result (inside g) l.invariant.1
           l.invariant.0 from (size g) (fits g) (y.auto.segment ∙ long g) (y.ensures ∙ ap (home_in sh n (i g)) c.part.ensures.0),
     )
-
-pub returns : goal.returns
-returns c =
-    let l = c.loop-i in
-    let o = c.args.opened.now in
-    let e : l.i ≡ o.fields.channels = omega arith in
-    l.invariant.1 ∙ ap (λ (k : ℕ). taken_from o.fields c.args.number.0 c.args.values.now k c.args.joined.now) e
