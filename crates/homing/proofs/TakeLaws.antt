@@ -24,7 +24,6 @@ use Rattle.joining.specs.Joining.{join_of, value_of, heard_of, home_of}
 use Rattle.joining.specs.Linked.{link_of}
 use Rattle.joining.specs.declared.Heard.{Heard}
 use Rattle.joining.specs.declared.linking.Link.{Link}
-use Rattle.opening.specs.Opened.{Opens}
 use Rattle.opening.specs.declared.Opened.{Opened}
 use Rattle.opening.proofs.OpenLaws.{low-is}
 use Rattle.frame.proofs.SendLaws.{cut_share}
@@ -54,7 +53,7 @@ module _ (sh : Sheet) (number i : ℕ) (w : Walk) (k : Walks sh number i w) (vs 
 -- ---- the segments, one channel after the other
 
 -- one channel more
-module _ (o : Opened) (h : Opens o) (number : ℕ) (ms old l : List Float) (i base from : ℕ) (inside : i < o.fields.channels) where
+module _ (o : Opened) (number : ℕ) (ms old l : List Float) (i base from : ℕ) (inside : i < o.fields.channels) where
   abbrev sh : Sheet
   sh = o.fields
 
@@ -70,6 +69,6 @@ module _ (o : Opened) (h : Opens o) (number : ℕ) (ms old l : List Float) (i ba
         ∙ ap (λ (k : ℕ). taken_from sh number ms k old) (sym (add-one i))
 
 -- the channel's part by its cuts
-pub part_at : {A : Type 0} (o : Opened) → Opens o → (i : ℕ) → i < o.fields.channels → (xs : List A) {a z : ℕ} → a ≡ get_or o.cuts i 0
+pub part_at : {A : Type 0} (o : Opened) → (i : ℕ) → i < o.fields.channels → (xs : List A) {a z : ℕ} → a ≡ get_or o.cuts i 0
     → z ≡ get_or o.cuts (i + 1) 0 → take (z - a) (drop a xs) ≡ channel_part o.fields i xs
-part_at o h i l xs ea ez = ap₂ (λ (n k : ℕ). take n (drop k xs)) (ap₂ ◌-◌ ez ea ∙ cut_share o h i l) (ea ∙ low-is o h i l)
+part_at o i l xs ea ez = ap₂ (λ (n k : ℕ). take n (drop k xs)) (ap₂ ◌-◌ ez ea ∙ cut_share o i l) (ea ∙ low-is o i l)

@@ -4,7 +4,6 @@ ghost use Rattle.sheet.specs.Counts.{most_frames};
 ghost use Rattle.sheet.specs.Fields.{encoded_of};
 ghost use Rattle.sheet.specs.Sizes.{equalised_all};
 ghost use Rattle.sheet.specs.Range.{Ranged};
-ghost use Rattle.opening.specs.Opened.{Opens};
 ghost use Rattle.homing.specs.Home.{channel_start, finished_of};
 
 use opening::Opened;
@@ -25,7 +24,7 @@ fn channel_start(fields: &Sheet, i: usize) -> usize
 
 // The E values of channel i in the coder's order.
 pub fn finish_channel(joined: &[f32], opened: &Opened, i: usize, coded: &mut [f32])
-    requires { Opens opened.now × (i < opened.now.fields.channels) × (length joined.now ≡ equalised_all opened.now.fields) × (length coded.old ≡ encoded_of opened.now.fields i) }
+    requires { (i < opened.now.fields.channels) × (length joined.now ≡ equalised_all opened.now.fields) × (length coded.old ≡ encoded_of opened.now.fields i) }
     ensures { coded.new ≡ finished_of opened.now.fields i joined.now }
 {
     let fields = &opened.fields;

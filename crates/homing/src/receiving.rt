@@ -5,7 +5,6 @@ ghost use Rattle.std.specs.Fn.{TakesAt, CalledAt};
 ghost use Rattle.sheet.specs.Counts.{most_bits};
 ghost use Rattle.sheet.specs.Sizes.{size_of, capacity_all, equalised_all};
 ghost use Rattle.sheet.specs.Range.{Accepted};
-ghost use Rattle.opening.specs.Opened.{Opens};
 ghost use Rattle.frame.specs.Room.{middle_frame};
 ghost use Rattle.homing.specs.Gather.{gathered};
 ghost use Rattle.homing.specs.Home.{taken_back_of, heard_at, link_in};
@@ -78,7 +77,7 @@ fn receive<R, F: FnMut(&[f32]) -> R>(frame: &[f32], fields: &Sheet, take: &mut F
 
 // Every channel's segment of a received frame.
 pub fn receive_all(frame: &[f32], opened: &Opened, number: FrameNumber, joined: &mut [f32])
-    requires { Opens opened.now × (length frame.now ≡ capacity_all opened.now.fields) × (length joined.old ≡ equalised_all opened.now.fields) }
+    requires { (length frame.now ≡ capacity_all opened.now.fields) × (length joined.old ≡ equalised_all opened.now.fields) }
     ensures { joined.new ≡ taken_back_of opened.now.fields number.0 frame.now joined.old }
 {
     receive(
@@ -90,7 +89,7 @@ pub fn receive_all(frame: &[f32], opened: &Opened, number: FrameNumber, joined: 
 
 // What was heard of bit m, from 0, of channel i's segment.
 pub fn receive_bit(frame: &[f32], opened: &Opened, number: FrameNumber, i: usize, m: usize) -> Heard
-    requires { Opens opened.now × (length frame.now ≡ capacity_all opened.now.fields) × (i < opened.now.fields.channels) × (m < size_of opened.now.fields i) }
+    requires { (length frame.now ≡ capacity_all opened.now.fields) × (i < opened.now.fields.channels) × (m < size_of opened.now.fields i) }
     ensures { result ≡ heard_at opened.now.fields number.0 i m frame.now }
 {
     receive(
@@ -102,7 +101,7 @@ pub fn receive_bit(frame: &[f32], opened: &Opened, number: FrameNumber, i: usize
 
 // The link record of channel i.
 pub fn receive_link(frame: &[f32], opened: &Opened, number: FrameNumber, i: usize) -> Link
-    requires { Opens opened.now × (length frame.now ≡ capacity_all opened.now.fields) × (i < opened.now.fields.channels) }
+    requires { (length frame.now ≡ capacity_all opened.now.fields) × (i < opened.now.fields.channels) }
     ensures { result ≡ link_in opened.now.fields number.0 i frame.now }
 {
     receive(

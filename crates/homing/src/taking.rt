@@ -3,7 +3,6 @@ ghost use Rattle.std.specs.Prelude.{◌≡◌, ◌+◌, ◌*◌, ◌%◌, ◌≤
 ghost use Rattle.sheet.specs.Counts.{most_frames, most_encoded};
 ghost use Rattle.sheet.specs.Sizes.{size_of, capacity_all, equalised_all};
 ghost use Rattle.matching.specs.Shares.{share_of, channel_part};
-ghost use Rattle.opening.specs.Opened.{Opens};
 ghost use Rattle.frame.specs.Walk.{Walks};
 ghost use Rattle.homing.specs.Home.{taken_count};
 ghost use Rattle.homing.specs.Taking.{home_in, hear_in, survey_in, taken_from};
@@ -18,7 +17,7 @@ use sheet::sizes::frames;
 
 // A channel's part of multiplexed values.
 pub(crate) fn part<'a>(values: &'a [f32], opened: &Opened, i: usize) -> &'a [f32]
-    requires { Opens opened.now × (length values.now ≡ capacity_all opened.now.fields) × (i < opened.now.fields.channels) }
+    requires { (length values.now ≡ capacity_all opened.now.fields) × (i < opened.now.fields.channels) }
     ensures { (result.now ≡ channel_part opened.now.fields i values.now) × (length result.now ≡ share_of opened.now.fields i) }
 {
     let a = usize::from(opened.cuts[i]);
@@ -28,7 +27,7 @@ pub(crate) fn part<'a>(values: &'a [f32], opened: &Opened, i: usize) -> &'a [f32
 
 // The walk of channel i. N is not asked of a segment's length: of what the sheet says the compiler knows that 16 bits hold it, and divides in fewer.
 fn walk(opened: &Opened, i: usize, number: FrameNumber) -> Walk
-    requires { Opens opened.now × (i < opened.now.fields.channels) }
+    requires { i < opened.now.fields.channels }
     ensures { Walks opened.now.fields number.0 i result }
 {
     let n = u64::from(opened.sizes[i]);
@@ -44,7 +43,7 @@ fn walk(opened: &Opened, i: usize, number: FrameNumber) -> Walk
 
 // The joined values of channel i's segment, out of its values as they were sent.
 fn take_channel(values: &[f32], opened: &Opened, i: usize, number: FrameNumber, segment: &mut [f32])
-    requires { Opens opened.now × (i < opened.now.fields.channels) × (length values.now ≡ share_of opened.now.fields i) × (length segment.old ≡ size_of opened.now.fields i) }
+    requires { (i < opened.now.fields.channels) × (length values.now ≡ share_of opened.now.fields i) × (length segment.old ≡ size_of opened.now.fields i) }
     ensures { segment.new ≡ home_in opened.now.fields number.0 i values.now }
 {
     let w = walk(opened, i, number);
@@ -59,7 +58,7 @@ pub fn hear_channel(
     number: FrameNumber,
     m: usize,
 ) -> Heard
-    requires { Opens opened.now × (i < opened.now.fields.channels) × (length values.now ≡ share_of opened.now.fields i) × (m < size_of opened.now.fields i) }
+    requires { (i < opened.now.fields.channels) × (length values.now ≡ share_of opened.now.fields i) × (m < size_of opened.now.fields i) }
     ensures { result ≡ hear_in opened.now.fields number.0 i m values.now }
 {
     let w = walk(opened, i, number);
@@ -68,7 +67,7 @@ pub fn hear_channel(
 
 // The link record of channel i.
 pub fn survey_channel(values: &[f32], opened: &Opened, i: usize, number: FrameNumber) -> Link
-    requires { Opens opened.now × (i < opened.now.fields.channels) × (length values.now ≡ share_of opened.now.fields i) }
+    requires { (i < opened.now.fields.channels) × (length values.now ≡ share_of opened.now.fields i) }
     ensures { result ≡ survey_in opened.now.fields number.0 i values.now }
 {
     let w = walk(opened, i, number);
@@ -85,7 +84,7 @@ fn segment_from(f: u64, size: usize, number: FrameNumber) -> usize
 
 // Every channel's segment of this frame, into a buffer of all T_i.
 pub fn take_segments(values: &[f32], opened: &Opened, number: FrameNumber, joined: &mut [f32])
-    requires { Opens opened.now × (length values.now ≡ capacity_all opened.now.fields) × (length joined.old ≡ equalised_all opened.now.fields) }
+    requires { (length values.now ≡ capacity_all opened.now.fields) × (length joined.old ≡ equalised_all opened.now.fields) }
     ensures { joined.new ≡ taken_from opened.now.fields number.0 values.now opened.now.fields.channels joined.old }
 {
     let mut base: usize = 0;
@@ -107,7 +106,6 @@ pub fn take_segments(values: &[f32], opened: &Opened, number: FrameNumber, joine
 
 // How many values those segments have: the sum of N.
 pub fn count_taken(opened: &Opened) -> u64
-    requires { Opens opened.now }
     ensures { result ≡ taken_count opened.now.fields }
 {
     let mut sum: u64 = 0;

@@ -6,9 +6,9 @@ ghost use Rattle.sheet.specs.Range.{Ranged};
 ghost use Rattle.matching.specs.Signed.{signed_by};
 ghost use Rattle.matching.specs.Shares.{weight_all, parts_of, cuts_of};
 
+use sheet::Sheet;
 use sheet::counts::CHANNELS;
 use sheet::sizes::segment;
-use sheet::Sheet;
 
 // A difference by its sign (true: below 0) and its magnitude.
 #[derive(Clone, Copy)]

@@ -7,8 +7,8 @@ use Rattle.homing.proofs.receiving.receive_link.Goals as goal
 
 pub receive-requires : goal.receive-requires
 receive-requires c =
-    let n = length-gathered nan c.args.opened.now.fields c.requires.0.accepted c.args.frame.now in
-    (c.requires.0.accepted, c.requires.1, grind (arith, common_steps))
+    let n = length-gathered nan c.args.opened.now.fields c.args.opened.now.accepted c.args.frame.now in
+    (c.args.opened.now.accepted, c.requires.0, grind (arith, common_steps))
 
 pub returns : goal.returns
 returns c =

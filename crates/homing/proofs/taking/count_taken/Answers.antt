@@ -20,4 +20,4 @@ returns c =
     let o = c.args.opened.now in
     summed_all c.loop-i.invariant (omega arith)
     ∙ ap (sum_to (λ k. get_or o.sizes k 0)) c.from-i-end.ensures
-    ∙ sum_same (λ k. get_or o.sizes k 0) (size_of o.fields) o.fields.channels (λ k h. size_is o c.requires k h)
+    ∙ sum_same (λ k. get_or o.sizes k 0) (size_of o.fields) o.fields.channels (λ k h. size_is o k h)

@@ -30,7 +30,7 @@ module _ (c : After-segment_from) where
   inside = omega arith
 
   size : c.from-size.result ≡ size_of o.fields i
-  size = c.from-size.ensures ∙ size_is o c.requires.0 i inside
+  size = c.from-size.ensures ∙ size_is o i inside
 
   -- T_i
   whole : c.frames-f.result * c.from-size.result ≡ equalised_of o.fields i
@@ -38,7 +38,7 @@ module _ (c : After-segment_from) where
 
   end : c.loop-i.base + equalised_of o.fields i ≤ length c.loop-i.joined
   unfolding channel_start
-  end = omega (arith, sum-within (equalised_of o.fields) i o.fields.channels inside, c.loop-i.invariant.0, c.requires.2)
+  end = omega (arith, sum-within (equalised_of o.fields) i o.fields.channels inside, c.loop-i.invariant.0, c.requires.1)
 
   fits : at + c.from-size.result ≤ length c.loop-i.joined
   fits = omega (arith, end, whole, c.segment_from.ensures.1)
@@ -57,7 +57,7 @@ segment_from-requires c =
     let l : i < o.fields.channels = omega arith in (
       omega (arith, c.frames-f.ensures.1),
       c.frames-f.ensures.2,
-      omega (arith, size_is o c.requires.0 i l, sizes_most o.fields c.requires.0.accepted i l),
+      omega (arith, size_is o i l, sizes_most o.fields c.args.opened.now.accepted i l),
     )
 
 pub overflow_add-at : goal.overflow_add-at
@@ -75,7 +75,7 @@ slice_bounds-take_channel-end c = fits (goal.at.slice_bounds-take_channel-end c)
 pub take_channel-requires : goal.take_channel-requires
 take_channel-requires c =
     let g = (goal.at.take_channel-requires c).After-segment_from in
-    (c.requires.0, inside g, c.part.ensures.1, omega (arith, long g, size g))
+    (inside g, c.part.ensures.1, omega (arith, long g, size g))
 
 pub loop-i-preserved : goal.loop-i-preserved
 unfolding channel_start
@@ -87,6 +87,6 @@ loop-i-preserved c =
     let n = c.args.number.0 in
     let from = c.segment_from.ensures.0 ∙ ap₂ (λ (f s : ℕ). n % f * s) c.frames-f.ensures.0 (size g) in (
       sum_more (equalised_of sh) (i g) l.invariant.0 (whole g),
-      taken_next (o g) c.requires.0 n c.args.values.now c.args.joined.now l.joined (i g) l.base c.segment_from.result (inside g) l.invariant.1
+      taken_next (o g) n c.args.values.now c.args.joined.now l.joined (i g) l.base c.segment_from.result (inside g) l.invariant.1
           l.invariant.0 from (size g) (fits g) (y.auto.segment ∙ long g) (y.ensures ∙ ap (home_in sh n (i g)) c.part.ensures.0),
     )
