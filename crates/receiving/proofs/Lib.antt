@@ -1,3 +1,2 @@
-pub mod FinishLaws
 pub mod ListenLaws
 pub mod Unique

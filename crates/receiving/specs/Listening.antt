@@ -1,5 +1,5 @@
 -- What asking for one bit and for a channel's link record answers.
-use Rattle.std.specs.Prelude.{Bool, ◌||◌, List, [], ◌∷◌, ◌++◌, ℕ, ◌-◌, eqb, ltb, Float, Result, Ok, Err}
+use Rattle.std.specs.Prelude.{Bool, ◌||◌, List, [], ◌∷◌, ◌++◌, ℕ, ◌-◌, eqb, ltb, Float, Result}
 use Rattle.counters.specs.Lines.{Line, line, first_of, given}
 use Rattle.counters.specs.Refusals.{number_of, index_of, value_or}
 use Rattle.counters.specs.declared.refusal.Refusal.{Refusal}

@@ -11,7 +11,12 @@ use looking::{check_length, find_trch};
 use opening::open_sheet;
 
 // Steps 2 and 1 undone for one channel; the values are not looked at.
-pub fn finish(bytes: &[u8], trch: TrchNumber, joined: &[f32], coded: &mut [f32]) -> Result<u64, Refusal>
+pub fn finish(
+    bytes: &[u8],
+    trch: TrchNumber,
+    joined: &[f32],
+    coded: &mut [f32],
+) -> Result<u64, Refusal>
     ensures { outcome (number_of result) (at_of result) coded.new ≡ finish_into bytes.now trch.0 joined.now coded.old }
 {
     let opened = open_sheet(bytes)?;

@@ -44,7 +44,12 @@ pub fn heard(
 }
 
 // The channel's link record.
-pub fn link(bytes: &[u8], number: FrameNumber, frame: &[f32], trch: TrchNumber) -> Result<Link, Refusal>
+pub fn link(
+    bytes: &[u8],
+    number: FrameNumber,
+    frame: &[f32],
+    trch: TrchNumber,
+) -> Result<Link, Refusal>
     ensures { link_left result ≡ link_answer bytes.now number.0 frame.now trch.0 }
 {
     let opened = open_frame(bytes, number)?;

@@ -127,7 +127,10 @@ pub fn umv_multiplex(
 ) -> u32
     ensures { outcome result at.new multiplexed.new ≡ multiplex_into bytes.now frame_number contents.now multiplexed.old }
 {
-    tell(multiplex(bytes, FrameNumber(frame_number), contents, multiplexed), at)
+    tell(
+        multiplex(bytes, FrameNumber(frame_number), contents, multiplexed),
+        at,
+    )
 }
 
 pub fn umv_spread(bytes: &[u8], multiplexed: &[u8], frame: &mut [u8], at: &mut u64) -> u32

@@ -27,7 +27,10 @@ pub fn umv_take_back(
 ) -> u32
     ensures { outcome result at.new joined.new ≡ take_into bytes.now frame_number frame.now joined.old }
 {
-    tell(take_back(bytes, FrameNumber(frame_number), frame, joined), at)
+    tell(
+        take_back(bytes, FrameNumber(frame_number), frame, joined),
+        at,
+    )
 }
 
 pub fn umv_finish(bytes: &[u8], trch: u32, joined: &[f32], coded: &mut [f32], at: &mut u64) -> u32

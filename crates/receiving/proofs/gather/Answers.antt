@@ -1,40 +1,22 @@
-use lib.Ieee.{nan}
-use Rattle.joining.specs.Range.{in_range}
-use Rattle.homing.specs.Gather.{gathered}
+use native.Mathlib.Omega.{arith}
+use Prim.Native.Nat.{ℕ}
 use lib.ListN.{length}
-use Rattle.opening.proofs.OpenLaws.{opens}
-use Rattle.looking.proofs.LookLaws.{Fits, moves_early, moves_looked, moves_written, moves_fit}
-use Rattle.receiving.proofs.gather.Goals.{Else-looked-ne0}
+use Rattle.std.proofs.lemmas.Result.{err_from_is_err_and}
+use Rattle.counters.proofs.RefusalLaws.{refusal_positive}
+use Rattle.sheet.specs.Fields.{sheet_of}
+use Rattle.sheet.specs.Sizes.{capacity_all}
+use Rattle.sheet.specs.Numbers.{read_lines}
+use Rattle.joining.specs.Range.{in_range}
+use Rattle.looking.proofs.LookLaws.{early_read, looks_early, looked_no}
 use Rattle.receiving.proofs.gather.Goals as goal
 
-pub returns-then-number-ne0 : goal.returns-then-number-ne0
-returns-then-number-ne0 c =
+pub returns-in_err-opened : goal.returns-in_err-opened
+returns-in_err-opened c =
     let a = c.args in
-    moves_early in_range a.frame.now a.out.now (λ sh. gathered nan sh a.frame.now) a.bytes.now c.open_sheet-answer.result c.open_sheet-answer.ensures c.if-number-ne0.true
-
-pub capacity-places-requires : goal.capacity-places-requires
-capacity-places-requires c = opens c.args.bytes.now c.open_sheet-answer.result c.open_sheet-answer.ensures c.if-number-ne0.false
-
-pub returns-then-looked-ne0 : goal.returns-then-looked-ne0
-returns-then-looked-ne0 c =
-    let a = c.args in
-    moves_looked in_range a.frame.now a.out.now (λ sh. gathered nan sh a.frame.now) a.bytes.now c.open_sheet-answer.result c.open_sheet-answer.ensures
-    c.if-number-ne0.false c.capacity-places.ensures.0 c.look_soft-looked.result c.look_soft-looked.ensures c.if-looked-ne0.true
-
--- number 0: what is lent is as long as it has to be
-fits : (c : Else-looked-ne0)
-    → let a = c.args in Fits c.open_sheet-answer.result.opened.fields (length a.frame.now) (length a.out.now)
-fits c =
-    let a = c.args in
-    moves_fit in_range a.frame.now a.out.now (λ sh. gathered nan sh a.frame.now) a.bytes.now c.open_sheet-answer.result c.open_sheet-answer.ensures
-    c.if-number-ne0.false c.capacity-places.ensures.0 c.look_soft-looked.result c.look_soft-looked.ensures c.if-looked-ne0.false
-
-pub gather_values-requires : goal.gather_values-requires
-gather_values-requires c = let f = fits (goal.at.gather_values-requires c).Else-looked-ne0 in (f.accepted, f.values, f.places)
-
-pub returns : goal.returns
-returns c =
-    let a = c.args in
-    moves_written in_range a.frame.now a.out.now (λ sh. gathered nan sh a.frame.now) a.bytes.now c.open_sheet-answer.result c.open_sheet-answer.ensures
-    c.if-number-ne0.false c.capacity-places.ensures.0 c.look_soft-looked.result c.look_soft-looked.ensures
-    c.if-looked-ne0.false c.gather_values.ensures
+    let p = err_from_is_err_and c.from_residual.result c.from_residual.ensures.1 in
+    let n = c.in_err-opened.ensures.number in
+    let r = c.in_err-opened.field-0.0 in
+    let s = a.bytes.now in
+    let d = capacity_all (sheet_of s) in
+    let l = looks_early in_range (read_lines s) (early_read s) a.frame.now d (length a.out.now) d ℕ r n.0 n.1 in
+    rw (p.1, p.2) (looked_no _ _ _ _ _ l.0 (λ q. omega (arith, q, refusal_positive r)) l.1)
