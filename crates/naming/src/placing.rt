@@ -16,6 +16,7 @@ use sheet::Sheet;
 use sheet::counts::CODES;
 
 // How many places slot t has. A slot's one capacity is its sum.
+#[tactic(auto, using(crate::proofs::PlacingLaws::one_size))]
 fn slot_size(fields: &Sheet, t: usize) -> u64
     requires { Ranged fields.now × (t < fields.now.slots) }
     ensures { (result ≡ slot_capacity fields.now t) × (result ≤ 65535 * most_codes) }
@@ -27,6 +28,7 @@ fn slot_size(fields: &Sheet, t: usize) -> u64
 }
 
 // Where slot t begins.
+#[tactic(auto, using(laws::proofs::SumLaws::sum_more), unfolding(laws::specs::Sums::sum_to))]
 fn slot_start(fields: &Sheet, t: usize) -> u64
     requires { Ranged fields.now × (t ≤ fields.now.slots) }
     ensures { result ≡ slot_start fields.now t }
