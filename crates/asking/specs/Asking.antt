@@ -1,7 +1,7 @@
 -- What asking for a sheet's sizes and for one channel's numbers answers.
 use Rattle.std.specs.Prelude.{List, [], ◌∷◌, ◌++◌, ℕ, ◌-◌, Result}
 use Rattle.counters.specs.Lines.{Line, line, first_of, given}
-use Rattle.counters.specs.Refusals.{number_of, value_or}
+use Rattle.counters.specs.Refusals.{answer_number, value_or}
 use Rattle.counters.specs.declared.refusal.Refusal.{Refusal}
 use Rattle.sheet.specs.Fields.{sheet_of, encoded_of}
 use Rattle.sheet.specs.Sizes.{frames_of, size_of, encoded_all, equalised_all, capacity_all}
@@ -71,7 +71,7 @@ no_sizes_found = record { channels = 0; slots = 0; contents = 0; capacity = 0; j
 abbrev pub sizes_left : Result SheetSizes Refusal → SizesAnswer
 sizes_left r =
     let s = value_or no_sizes_found r in
-    sizes_made (number_of r) s.channels s.slots s.contents s.capacity s.joined
+    sizes_made (answer_number r) s.channels s.slots s.contents s.capacity s.joined
 
 abbrev pub channel_given : ChannelSizes → ChannelAnswer
 channel_given c = channel_made 0 c.f c.e c.n c.v
@@ -82,4 +82,4 @@ no_channel_found = record { f = 0; e = 0; n = 0; v = 0 }
 abbrev pub channel_left : Result ChannelSizes Refusal → ChannelAnswer
 channel_left r =
     let c = value_or no_channel_found r in
-    channel_made (number_of r) c.f c.e c.n c.v
+    channel_made (answer_number r) c.f c.e c.n c.v

@@ -1,7 +1,7 @@
 -- What asking for the name of a place answers.
 use Rattle.std.specs.Prelude.{not, List, [], ◌∷◌, ◌++◌, ℕ, Result}
 use Rattle.counters.specs.Lines.{Line, line, first_of, given}
-use Rattle.counters.specs.Refusals.{number_of, value_or}
+use Rattle.counters.specs.Refusals.{answer_number, value_or}
 use Rattle.counters.specs.declared.refusal.Refusal.{Refusal}
 use Rattle.sheet.specs.Fields.{sheet_of}
 use Rattle.naming.specs.Name.{Name, name_of, name_in, has_place}
@@ -40,4 +40,4 @@ abbrev pub no_name_found : PlaceName
 no_name_found = record { trch = record { 0 = 0 }; bit = record { 0 = 0 }; copy = 0 }
 
 abbrev pub naming_left : Result PlaceName Refusal → Naming
-naming_left r = naming (number_of r) (name_in (value_or no_name_found r))
+naming_left r = naming (answer_number r) (name_in (value_or no_name_found r))

@@ -1,7 +1,7 @@
 -- What asking for a channel's part of a multiplexed frame answers, and the part.
 use Rattle.std.specs.Prelude.{List, [], ◌∷◌, ◌++◌, ℕ, ◌+◌, ◌-◌, ◌*◌, Result, length}
 use Rattle.counters.specs.Lines.{Line, line, first_of, given}
-use Rattle.counters.specs.Refusals.{number_of, value_or}
+use Rattle.counters.specs.Refusals.{answer_number, value_or}
 use Rattle.counters.specs.declared.refusal.Refusal.{Refusal}
 use Rattle.sheet.specs.Fields.{sheet_of}
 use Rattle.sheet.specs.Sizes.{capacity_all}
@@ -47,7 +47,7 @@ no_part_found = record { start = 0; length = 0 }
 abbrev pub part_left : Result PartSpan Refusal → PartAnswer
 part_left r =
     let p = value_or no_part_found r in
-    part_made (number_of r) p.start p.length
+    part_made (answer_number r) p.start p.length
 
 -- the part of a multiplexed frame of anything: empty where refused
 abbrev pub part_of : {A : Type 0} → List ℕ → ℕ → List A → List A

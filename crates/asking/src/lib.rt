@@ -2,7 +2,7 @@
 #![tactic(auto)]
 
 ghost use Rattle.std.specs.Prelude.{◌≡◌, ◌<◌};
-ghost use Rattle.counters.specs.Refusals.{index_of};
+ghost use Rattle.counters.specs.Refusals.{answer_index};
 ghost use Rattle.asking.specs.Asking.{sizes_given, sizes_in, no_sizes, sizes_left, sizes_answer, channel_given, channel_in, channel_left, channel_answer};
 
 pub mod name;
@@ -65,7 +65,7 @@ fn sizes_of(opened: &Opened) -> SheetSizes
 
 // The sizes of a sheet.
 pub fn sizes(bytes: &[u8]) -> Result<SheetSizes, Refusal>
-    ensures { (sizes_left result ≡ sizes_answer bytes.now) × (index_of result ≡ 0) }
+    ensures { (sizes_left result ≡ sizes_answer bytes.now) × (answer_index result ≡ 0) }
 {
     let opened = open_sheet(bytes)?;
     Ok(sizes_of(&opened))
@@ -86,7 +86,7 @@ fn channel_of(opened: &Opened, i: usize) -> ChannelSizes
 
 // F, E, N and V of a channel.
 pub fn channel(bytes: &[u8], trch: TrchNumber) -> Result<ChannelSizes, Refusal>
-    ensures { (channel_left result ≡ channel_answer bytes.now trch.0) × (index_of result ≡ 0) }
+    ensures { (channel_left result ≡ channel_answer bytes.now trch.0) × (answer_index result ≡ 0) }
 {
     let opened = open_sheet(bytes)?;
     let i = find_trch(&opened.fields, trch)?;

@@ -1,6 +1,6 @@
 // The name of a place: nothing is built.
 ghost use Rattle.std.specs.Prelude.{◌≡◌};
-ghost use Rattle.counters.specs.Refusals.{index_of};
+ghost use Rattle.counters.specs.Refusals.{answer_index};
 ghost use Rattle.asking.specs.Naming.{naming_left, name_answer};
 
 use counters::refusal::Refusal;
@@ -17,7 +17,7 @@ pub fn name(
     phch: PhchNumber,
     place: u32,
 ) -> Result<PlaceName, Refusal>
-    ensures { (naming_left result ≡ name_answer bytes.now frame.0 subframe slot phch.0 place) × (index_of result ≡ 0) }
+    ensures { (naming_left result ≡ name_answer bytes.now frame.0 subframe slot phch.0 place) × (answer_index result ≡ 0) }
 {
     let opened = open_frame(bytes, frame)?;
     let place = Place {

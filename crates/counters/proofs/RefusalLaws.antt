@@ -6,7 +6,7 @@ use native.Mathlib.Omega.{arith}
 use lib.Dec.{eqb}
 use Rattle.std.specs.Prelude.{Result, Ok, Err}
 use Rattle.counters.specs.Lines.{Answer}
-use Rattle.counters.specs.Refusals.{refusal_number, refusal_at, number_of, index_of, at_of, value_or, answer_in}
+use Rattle.counters.specs.Refusals.{refusal_number, refusal_at, answer_number, answer_index, at_of, value_or, answer_in}
 use Rattle.counters.specs.declared.refusal.Refusal.{Refusal}
 use Rattle.counters.specs.declared.refusal.Refusal.TheVariants.{ShortSheet, OtherVersion, NoSlots, Malformed, NoCapacity, ManyBits, ManyPlaces, NoBits, LateFrame, Missing, WrongLength, BadValue, BadUplink, BadSubframe}
 
@@ -61,14 +61,14 @@ refusal_positive BadSubframe = omega arith
 pub refusal_same : (a b : Refusal) → refusal_number a ≡ refusal_number b → refusal_at a ≡ refusal_at b → a ≡ b
 refusal_same a b n i = sym (refusal_back a) ∙ ap₂ refusal_of n i ∙ refusal_back b
 
-pub result_same : {A : Type 0} (d : A) (x y : Result A Refusal) → number_of x ≡ number_of y → index_of x ≡ index_of y → value_or d x ≡ value_or d y → x ≡ y
+pub result_same : {A : Type 0} (d : A) (x y : Result A Refusal) → answer_number x ≡ answer_number y → answer_index x ≡ answer_index y → value_or d x ≡ value_or d y → x ≡ y
 result_same d (Ok x) (Ok y) n i v = ap Ok v
 result_same d (Ok x) (Err b) n i v = absurd (omega (arith, refusal_positive b))
 result_same d (Err a) (Ok y) n i v = absurd (omega (arith, refusal_positive a))
 result_same d (Err a) (Err b) n i v = ap Err (refusal_same a b n i)
 
 -- of a call whose answer is a count
-pub answer_same : (x y : Result ℕ Refusal) → number_of x ≡ number_of y → at_of x ≡ at_of y → x ≡ y
+pub answer_same : (x y : Result ℕ Refusal) → answer_number x ≡ answer_number y → at_of x ≡ at_of y → x ≡ y
 answer_same (Ok x) (Ok y) n i = ap Ok i
 answer_same (Ok x) (Err b) n i = absurd (omega (arith, refusal_positive b))
 answer_same (Err a) (Ok y) n i = absurd (omega (arith, refusal_positive a))
@@ -81,11 +81,11 @@ count_same {x} {y} p q =
 
 -- two answers are one where what a caller is told of them is: it has the number and what was asked for
 module _ {A X : Type 0} (d : A) (number : X → ℕ) (value : X → A) (told : Result A Refusal → X)
-    (numbers : (r : Result A Refusal) → number (told r) ≡ number_of r) (values : (r : Result A Refusal) → value (told r) ≡ value_or d r) where
-  pub told_same : {x y : Result A Refusal} {a : X} → told x ≡ a → told y ≡ a → index_of x ≡ index_of y → x ≡ y
+    (numbers : (r : Result A Refusal) → number (told r) ≡ answer_number r) (values : (r : Result A Refusal) → value (told r) ≡ value_or d r) where
+  pub told_same : {x y : Result A Refusal} {a : X} → told x ≡ a → told y ≡ a → answer_index x ≡ answer_index y → x ≡ y
   told_same {x} {y} p q i =
       let e = p ∙ sym q in
       result_same d x y (sym (numbers x) ∙ ap number e ∙ numbers y) i (sym (values x) ∙ ap value e ∙ values y)
 
-  pub told_alone : {L : Type 0} {l : L} {x y : Result A Refusal} {a : X} → (told x ≡ a) × (index_of x ≡ 0) → (told y ≡ a) × (index_of y ≡ 0) → (x ≡ y) × (l ≡ l)
+  pub told_alone : {L : Type 0} {l : L} {x y : Result A Refusal} {a : X} → (told x ≡ a) × (answer_index x ≡ 0) → (told y ≡ a) × (answer_index y ≡ 0) → (x ≡ y) × (l ≡ l)
   told_alone p q = (told_same p.0 q.0 (p.1 ∙ sym q.1), refl)

@@ -27,14 +27,14 @@ refusal_at (BadValue at) = at
 refusal_at r = 0
 
 -- the number of what a call answers
-abbrev pub number_of : {A : Type 0} → Result A Refusal → ℕ
-number_of (Ok x) = 0
-number_of (Err r) = refusal_number r
+abbrev pub answer_number : {A : Type 0} → Result A Refusal → ℕ
+answer_number (Ok x) = 0
+answer_number (Err r) = refusal_number r
 
 -- the index that its refusal points at
-abbrev pub index_of : {A : Type 0} → Result A Refusal → ℕ
-index_of (Ok x) = 0
-index_of (Err r) = refusal_at r
+abbrev pub answer_index : {A : Type 0} → Result A Refusal → ℕ
+answer_index (Ok x) = 0
+answer_index (Err r) = refusal_at r
 
 -- the count that a call answers; of a refusal the index that it points at
 abbrev pub at_of : Result ℕ Refusal → ℕ
@@ -48,8 +48,8 @@ value_or d (Err r) = d
 
 -- of a call whose answer is a count
 abbrev pub answer_in : Result ℕ Refusal → Answer
-answer_in r = record { number = number_of r; at = at_of r }
+answer_in r = record { number = answer_number r; at = at_of r }
 
 -- the first of the lines that holds refuses, and points at nothing
 abbrev pub Refuses : {A : Type 0} → List Line → Result A Refusal → Type 0
-Refuses lines r = (number_of r ≡ first_of lines) × (index_of r ≡ 0)
+Refuses lines r = (answer_number r ≡ first_of lines) × (answer_index r ≡ 0)

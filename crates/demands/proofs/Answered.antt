@@ -1,7 +1,7 @@
 -- What demands 2 and 3 take for the answers of the public calls is what their contracts, as the toolchain reads them out of the code, say that they leave.
 -- The parameters stand as in Demand1.
 use mathlib.Core.Path.{◌≡◌}
-use Rattle.counters.specs.Refusals.{number_of, at_of}
+use Rattle.counters.specs.Refusals.{answer_number, at_of}
 use Rattle.sheet.specs.Numbers.{read_left, read_answer}
 use Rattle.looking.specs.Outcome.{outcome}
 use Rattle.asking.specs.Asking.{sizes_made, sizes_left, sizes_answer, channel_made, channel_left, channel_answer}
@@ -42,7 +42,7 @@ pub umv_name : Always Rattle.ummervia.specs.contracts.exports.umv_name.ended Rat
 umv_name κs i r v met = met
 
 pub build : Always Rattle.sending.specs.contracts.build.ended Rattle.sending.proofs.build.Reads.Learnt
-    (λ κs (bytes, (frame, (contents, (old, _)))) r (_, (_, (_, (new, _)))). outcome (number_of r) (at_of r) new ≡ build_into bytes.now frame.0 contents.now old.now)
+    (λ κs (bytes, (frame, (contents, (old, _)))) r (_, (_, (_, (new, _)))). outcome (answer_number r) (at_of r) new ≡ build_into bytes.now frame.0 contents.now old.now)
 build κs i r v met = met
 
 pub umv_build : Always Rattle.ummervia.specs.contracts.exports.umv_build.ended Rattle.ummervia.proofs.exports.umv_build.Reads.Learnt
@@ -50,7 +50,7 @@ pub umv_build : Always Rattle.ummervia.specs.contracts.exports.umv_build.ended R
 umv_build κs i r v met = met
 
 pub take_back : Always Rattle.receiving.specs.contracts.take_back.ended Rattle.receiving.proofs.take_back.Reads.Learnt
-    (λ κs (bytes, (number, (frame, (old, _)))) r (_, (_, (_, (new, _)))). outcome (number_of r) (at_of r) new ≡ take_into bytes.now number.0 frame.now old.now)
+    (λ κs (bytes, (number, (frame, (old, _)))) r (_, (_, (_, (new, _)))). outcome (answer_number r) (at_of r) new ≡ take_into bytes.now number.0 frame.now old.now)
 take_back κs i r v met = met
 
 pub umv_take_back : Always Rattle.ummervia.specs.contracts.exports_home.umv_take_back.ended Rattle.ummervia.proofs.exports_home.umv_take_back.Reads.Learnt
@@ -58,7 +58,7 @@ pub umv_take_back : Always Rattle.ummervia.specs.contracts.exports_home.umv_take
 umv_take_back κs i r v met = met
 
 pub finish : Always Rattle.receiving.specs.contracts.finishing.finish.ended Rattle.receiving.proofs.finishing.finish.Reads.Learnt
-    (λ κs (bytes, (trch, (joined, (old, _)))) r (_, (_, (_, (new, _)))). outcome (number_of r) (at_of r) new ≡ finish_into bytes.now trch.0 joined.now old.now)
+    (λ κs (bytes, (trch, (joined, (old, _)))) r (_, (_, (_, (new, _)))). outcome (answer_number r) (at_of r) new ≡ finish_into bytes.now trch.0 joined.now old.now)
 finish κs i r v met = met
 
 pub umv_finish : Always Rattle.ummervia.specs.contracts.exports_home.umv_finish.ended Rattle.ummervia.proofs.exports_home.umv_finish.Reads.Learnt

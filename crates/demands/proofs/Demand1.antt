@@ -8,7 +8,7 @@ use mathlib.Core.Logic.{◌↔◌, ◌≢◌}
 use Prim.Native.Nat.{◌<◌}
 use lib.ListN.{length}
 use denote.Triple.Clauses.{Ended}
-use Rattle.counters.specs.Refusals.{number_of, index_of, at_of, value_or, answer_in}
+use Rattle.counters.specs.Refusals.{answer_number, answer_index, at_of, value_or, answer_in}
 use Rattle.sheet.specs.Fields.{sheet_of, blank}
 use Rattle.sheet.specs.Numbers.{read_left}
 use Rattle.joining.specs.declared.Heard.TheVariants.{Nothing}
@@ -38,7 +38,7 @@ demanded p a = record { takes_all = p.takes_all; one_answer = p.one_answer; as_s
 -- ---- a sheet
 
 pub sheet_read : Demanded Rattle.sheets.specs.contracts.sheet_read.ended Rattle.sheets.proofs.sheet_read.Reads.Asked Rattle.sheets.proofs.sheet_read.Reads.Learnt
-    (λ κs (bytes, _) r _. SheetReadCall bytes.now (number_of r) (value_or blank r))
+    (λ κs (bytes, _) r _. SheetReadCall bytes.now (answer_number r) (value_or blank r))
 sheet_read = demanded Sheets.sheet_read (λ κs i r v met. sheet_read_law _ (read_left r) met.0)
 
 pub umv_sheet_read : Demanded Rattle.ummervia.specs.contracts.exports.umv_sheet_read.ended Rattle.ummervia.proofs.exports.umv_sheet_read.Reads.Asked Rattle.ummervia.proofs.exports.umv_sheet_read.Reads.Learnt
@@ -46,7 +46,7 @@ pub umv_sheet_read : Demanded Rattle.ummervia.specs.contracts.exports.umv_sheet_
 umv_sheet_read = demanded Ummervia.umv_sheet_read (λ κs i r (_, (new, (at, _))) met. umv_sheet_read_law _ _ (outcome r at new) met)
 
 pub sheet_length : Demanded Rattle.sheets.specs.contracts.sheet_length.ended Rattle.sheets.proofs.sheet_length.Reads.Asked Rattle.sheets.proofs.sheet_length.Reads.Learnt
-    (λ κs (sheet, _) r _. SheetLengthCall sheet.now (number_of r) (at_of r))
+    (λ κs (sheet, _) r _. SheetLengthCall sheet.now (answer_number r) (at_of r))
 sheet_length = demanded Sheets.sheet_length (λ κs i r v met. sheet_length_law i.0.now (answer_in r) met)
 
 pub umv_sheet_length : Demanded Rattle.ummervia.specs.contracts.exports.umv_sheet_length.ended Rattle.ummervia.proofs.exports.umv_sheet_length.Reads.Asked Rattle.ummervia.proofs.exports.umv_sheet_length.Reads.Learnt
@@ -54,8 +54,8 @@ pub umv_sheet_length : Demanded Rattle.ummervia.specs.contracts.exports.umv_shee
 umv_sheet_length = demanded Ummervia.umv_sheet_length (λ κs i r (_, (at, _)) met. umv_sheet_length_law _ (answer_made r at) met)
 
 pub sheet_write : Demanded Rattle.sheets.specs.contracts.sheet_write.ended Rattle.sheets.proofs.sheet_write.Reads.Asked Rattle.sheets.proofs.sheet_write.Reads.Learnt
-    (λ κs (sheet, (old, _)) r (_, (new, _)). SheetWriteCall sheet.now old.now (number_of r) (at_of r, new))
-sheet_write = demanded Sheets.sheet_write (λ κs i r (_, (new, _)) met. sheet_write_law _ _ (outcome (number_of r) (at_of r) new) met)
+    (λ κs (sheet, (old, _)) r (_, (new, _)). SheetWriteCall sheet.now old.now (answer_number r) (at_of r, new))
+sheet_write = demanded Sheets.sheet_write (λ κs i r (_, (new, _)) met. sheet_write_law _ _ (outcome (answer_number r) (at_of r) new) met)
 
 pub umv_sheet_write : Demanded Rattle.ummervia.specs.contracts.exports.umv_sheet_write.ended Rattle.ummervia.proofs.exports.umv_sheet_write.Reads.Asked Rattle.ummervia.proofs.exports.umv_sheet_write.Reads.Learnt
     (λ κs (row, (old, _)) r (_, (new, (at, _))). UmvSheetWriteCall row.now old.now r (at, new))
@@ -66,7 +66,7 @@ umv_sheet_write = demanded Ummervia.umv_sheet_write (λ κs i r (_, (new, (at, _
 pub sizes : Demanded Rattle.asking.specs.contracts.sizes.ended Rattle.asking.proofs.sizes.Reads.Asked Rattle.asking.proofs.sizes.Reads.Learnt
     (λ κs (bytes, _) r _.
     let z = value_or no_sizes_found r in
-    SizesCall bytes.now (number_of r) (z.channels, z.slots, z.contents, z.capacity, z.joined))
+    SizesCall bytes.now (answer_number r) (z.channels, z.slots, z.contents, z.capacity, z.joined))
 sizes = demanded Asking.sizes (λ κs i r v met. sizes_law _ (sizes_left r) met.0)
 
 pub umv_sizes : Demanded Rattle.ummervia.specs.contracts.exports.umv_sizes.ended Rattle.ummervia.proofs.exports.umv_sizes.Reads.Asked Rattle.ummervia.proofs.exports.umv_sizes.Reads.Learnt
@@ -77,7 +77,7 @@ umv_sizes = demanded Ummervia.umv_sizes (λ κs i r (_, (channels, (slots, (cont
 pub channel : Demanded Rattle.asking.specs.contracts.channel.ended Rattle.asking.proofs.channel.Reads.Asked Rattle.asking.proofs.channel.Reads.Learnt
     (λ κs (bytes, (trch, _)) r _.
     let z = value_or no_channel_found r in
-    ChannelCall bytes.now trch.0 (number_of r) (z.f, z.e, z.n, z.v))
+    ChannelCall bytes.now trch.0 (answer_number r) (z.f, z.e, z.n, z.v))
 channel = demanded Asking.channel (λ κs i r v met. channel_law _ _ (channel_left r) met.0)
 
 pub umv_channel : Demanded Rattle.ummervia.specs.contracts.exports.umv_channel.ended Rattle.ummervia.proofs.exports.umv_channel.Reads.Asked Rattle.ummervia.proofs.exports.umv_channel.Reads.Learnt
@@ -86,7 +86,7 @@ umv_channel = demanded Ummervia.umv_channel (λ κs i r (_, (_, (f, (e, (n, (v, 
 
 pub name : Demanded Rattle.asking.specs.contracts.name.name.ended Rattle.asking.proofs.name.name.Reads.Asked Rattle.asking.proofs.name.name.Reads.Learnt
     (λ κs (bytes, (frame, (subframe, (slot, (phch, (place, _)))))) r _.
-    NameCall bytes.now frame.0 subframe slot phch.0 place (number_of r) (name_in (value_or no_name_found r)))
+    NameCall bytes.now frame.0 subframe slot phch.0 place (answer_number r) (name_in (value_or no_name_found r)))
 name = demanded Asking.name (λ κs i r v met. name_law _ _ _ _ _ _ (naming_left r) met.0)
 
 pub umv_name : Demanded Rattle.ummervia.specs.contracts.exports.umv_name.ended Rattle.ummervia.proofs.exports.umv_name.Reads.Asked Rattle.ummervia.proofs.exports.umv_name.Reads.Learnt
@@ -97,7 +97,7 @@ umv_name = demanded Ummervia.umv_name (λ κs i r (_, (_, (_, (_, (_, (_, (chann
 pub part : Demanded Rattle.asking.specs.contracts.part.part.ended Rattle.asking.proofs.part.part.Reads.Asked Rattle.asking.proofs.part.part.Reads.Learnt
     (λ κs (bytes, (trch, (n, _))) r _.
     let z = value_or no_part_found r in
-    PartCall bytes.now trch.0 n (number_of r) (z.start, z.length))
+    PartCall bytes.now trch.0 n (answer_number r) (z.start, z.length))
 part = demanded Asking.part (λ κs i r v met. part_law _ _ _ (part_left r) met.0)
 
 pub umv_part : Demanded Rattle.ummervia.specs.contracts.exports.umv_part.ended Rattle.ummervia.proofs.exports.umv_part.Reads.Asked Rattle.ummervia.proofs.exports.umv_part.Reads.Learnt
@@ -117,8 +117,8 @@ part-soft = record { takes_all = (Asking.part-soft).0; one_answer = (Asking.part
 
 pub build : Demanded Rattle.sending.specs.contracts.build.ended Rattle.sending.proofs.build.Reads.Asked Rattle.sending.proofs.build.Reads.Learnt
     (λ κs (bytes, (frame, (contents, (old, _)))) r (_, (_, (_, (new, _)))).
-    BuildCall bytes.now frame.0 contents.now old.now (number_of r) (at_of r) new)
-build = demanded Sending.build (λ κs i r (_, (_, (_, (new, _)))) met. build_law _ _ _ _ (outcome (number_of r) (at_of r) new) met)
+    BuildCall bytes.now frame.0 contents.now old.now (answer_number r) (at_of r) new)
+build = demanded Sending.build (λ κs i r (_, (_, (_, (new, _)))) met. build_law _ _ _ _ (outcome (answer_number r) (at_of r) new) met)
 
 pub umv_build : Demanded Rattle.ummervia.specs.contracts.exports.umv_build.ended Rattle.ummervia.proofs.exports.umv_build.Reads.Asked Rattle.ummervia.proofs.exports.umv_build.Reads.Learnt
     (λ κs (bytes, (frame, (contents, (old, _)))) r (_, (_, (_, (new, (at, _))))).
@@ -127,8 +127,8 @@ umv_build = demanded Ummervia.umv_build (λ κs i r (_, (_, (_, (new, (at, _))))
 
 pub multiplex : Demanded Rattle.sending.specs.contracts.multiplex.ended Rattle.sending.proofs.multiplex.Reads.Asked Rattle.sending.proofs.multiplex.Reads.Learnt
     (λ κs (bytes, (frame, (contents, (old, _)))) r (_, (_, (_, (new, _)))).
-    MultiplexCall bytes.now frame.0 contents.now old.now (number_of r) (at_of r) new)
-multiplex = demanded Sending.multiplex (λ κs i r (_, (_, (_, (new, _)))) met. multiplex_law _ _ _ _ (outcome (number_of r) (at_of r) new) met)
+    MultiplexCall bytes.now frame.0 contents.now old.now (answer_number r) (at_of r) new)
+multiplex = demanded Sending.multiplex (λ κs i r (_, (_, (_, (new, _)))) met. multiplex_law _ _ _ _ (outcome (answer_number r) (at_of r) new) met)
 
 pub umv_multiplex : Demanded Rattle.ummervia.specs.contracts.exports.umv_multiplex.ended Rattle.ummervia.proofs.exports.umv_multiplex.Reads.Asked Rattle.ummervia.proofs.exports.umv_multiplex.Reads.Learnt
     (λ κs (bytes, (frame, (contents, (old, _)))) r (_, (_, (_, (new, (at, _))))).
@@ -137,8 +137,8 @@ umv_multiplex = demanded Ummervia.umv_multiplex (λ κs i r (_, (_, (_, (new, (a
 
 pub spread : Demanded Rattle.sending.specs.contracts.spread.ended Rattle.sending.proofs.spread.Reads.Asked Rattle.sending.proofs.spread.Reads.Learnt
     (λ κs (bytes, (bits, (old, _))) r (_, (_, (new, _))).
-    SpreadCall bytes.now bits.now old.now (number_of r) (at_of r) new)
-spread = demanded Sending.spread (λ κs i r (_, (_, (new, _))) met. spread_law _ _ _ (outcome (number_of r) (at_of r) new) met)
+    SpreadCall bytes.now bits.now old.now (answer_number r) (at_of r) new)
+spread = demanded Sending.spread (λ κs i r (_, (_, (new, _))) met. spread_law _ _ _ (outcome (answer_number r) (at_of r) new) met)
 
 pub umv_spread : Demanded Rattle.ummervia.specs.contracts.exports.umv_spread.ended Rattle.ummervia.proofs.exports.umv_spread.Reads.Asked Rattle.ummervia.proofs.exports.umv_spread.Reads.Learnt
     (λ κs (bytes, (bits, (old, _))) r (_, (_, (new, (at, _)))).
@@ -149,8 +149,8 @@ umv_spread = demanded Ummervia.umv_spread (λ κs i r (_, (_, (new, (at, _)))) m
 
 pub gather : Demanded Rattle.receiving.specs.contracts.gather.ended Rattle.receiving.proofs.gather.Reads.Asked Rattle.receiving.proofs.gather.Reads.Learnt
     (λ κs (bytes, (frame, (old, _))) r (_, (_, (new, _))).
-    GatherCall bytes.now frame.now old.now (number_of r) (at_of r) new)
-gather = demanded Receiving.gather (λ κs i r (_, (_, (new, _))) met. gather_law _ _ _ (outcome (number_of r) (at_of r) new) met)
+    GatherCall bytes.now frame.now old.now (answer_number r) (at_of r) new)
+gather = demanded Receiving.gather (λ κs i r (_, (_, (new, _))) met. gather_law _ _ _ (outcome (answer_number r) (at_of r) new) met)
 
 pub umv_gather : Demanded Rattle.ummervia.specs.contracts.exports_home.umv_gather.ended Rattle.ummervia.proofs.exports_home.umv_gather.Reads.Asked Rattle.ummervia.proofs.exports_home.umv_gather.Reads.Learnt
     (λ κs (bytes, (frame, (old, _))) r (_, (_, (new, (at, _)))).
@@ -159,8 +159,8 @@ umv_gather = demanded Ummervia.umv_gather (λ κs i r (_, (_, (new, (at, _)))) m
 
 pub take_back : Demanded Rattle.receiving.specs.contracts.take_back.ended Rattle.receiving.proofs.take_back.Reads.Asked Rattle.receiving.proofs.take_back.Reads.Learnt
     (λ κs (bytes, (number, (frame, (old, _)))) r (_, (_, (_, (new, _)))).
-    TakeBackCall bytes.now number.0 frame.now old.now (number_of r) (at_of r) new)
-take_back = demanded Receiving.take_back (λ κs i r (_, (_, (_, (new, _)))) met. take_back_law _ _ _ _ (outcome (number_of r) (at_of r) new) met)
+    TakeBackCall bytes.now number.0 frame.now old.now (answer_number r) (at_of r) new)
+take_back = demanded Receiving.take_back (λ κs i r (_, (_, (_, (new, _)))) met. take_back_law _ _ _ _ (outcome (answer_number r) (at_of r) new) met)
 
 pub umv_take_back : Demanded Rattle.ummervia.specs.contracts.exports_home.umv_take_back.ended Rattle.ummervia.proofs.exports_home.umv_take_back.Reads.Asked Rattle.ummervia.proofs.exports_home.umv_take_back.Reads.Learnt
     (λ κs (bytes, (number, (frame, (old, _)))) r (_, (_, (_, (new, (at, _))))).
@@ -169,8 +169,8 @@ umv_take_back = demanded Ummervia.umv_take_back (λ κs i r (_, (_, (_, (new, (a
 
 pub finish : Demanded Rattle.receiving.specs.contracts.finishing.finish.ended Rattle.receiving.proofs.finishing.finish.Reads.Asked Rattle.receiving.proofs.finishing.finish.Reads.Learnt
     (λ κs (bytes, (trch, (joined, (old, _)))) r (_, (_, (_, (new, _)))).
-    FinishCall bytes.now trch.0 joined.now old.now (number_of r) (at_of r, new))
-finish = demanded Receiving.finish (λ κs i r (_, (_, (_, (new, _)))) met. finish_law _ _ _ _ (outcome (number_of r) (at_of r) new) met)
+    FinishCall bytes.now trch.0 joined.now old.now (answer_number r) (at_of r, new))
+finish = demanded Receiving.finish (λ κs i r (_, (_, (_, (new, _)))) met. finish_law _ _ _ _ (outcome (answer_number r) (at_of r) new) met)
 
 pub umv_finish : Demanded Rattle.ummervia.specs.contracts.exports_home.umv_finish.ended Rattle.ummervia.proofs.exports_home.umv_finish.Reads.Asked Rattle.ummervia.proofs.exports_home.umv_finish.Reads.Learnt
     (λ κs (bytes, (trch, (joined, (old, _)))) r (_, (_, (_, (new, (at, _))))).
@@ -179,7 +179,7 @@ umv_finish = demanded Ummervia.umv_finish (λ κs i r (_, (_, (_, (new, (at, _))
 
 pub heard : Demanded Rattle.receiving.specs.contracts.listening.heard.ended Rattle.receiving.proofs.listening.heard.Reads.Asked Rattle.receiving.proofs.listening.heard.Reads.Learnt
     (λ κs (bytes, (number, (frame, (trch, (bit, _))))) r _.
-    HeardCall bytes.now number.0 frame.now trch.0 bit.0 (number_of r) (index_of r) (value_or Nothing r))
+    HeardCall bytes.now number.0 frame.now trch.0 bit.0 (answer_number r) (answer_index r) (value_or Nothing r))
 heard = demanded Receiving.heard (λ κs i r v met. heard_law _ _ _ _ _ (heard_left r) met)
 
 pub umv_heard : Demanded Rattle.ummervia.specs.contracts.exports_home.umv_heard.ended Rattle.ummervia.proofs.exports_home.umv_heard.Reads.Asked Rattle.ummervia.proofs.exports_home.umv_heard.Reads.Learnt
@@ -189,7 +189,7 @@ umv_heard = demanded Ummervia.umv_heard (λ κs i r (_, (_, (_, (_, (_, (at, (va
 
 pub link : Demanded Rattle.receiving.specs.contracts.listening.link.ended Rattle.receiving.proofs.listening.link.Reads.Asked Rattle.receiving.proofs.listening.link.Reads.Learnt
     (λ κs (bytes, (number, (frame, (trch, _)))) r _.
-    LinkCall bytes.now number.0 frame.now trch.0 (number_of r) (index_of r) (value_or no_link r))
+    LinkCall bytes.now number.0 frame.now trch.0 (answer_number r) (answer_index r) (value_or no_link r))
 link = demanded Receiving.link (λ κs i r v met. link_law _ _ _ _ (link_left r) met)
 
 pub umv_link : Demanded Rattle.ummervia.specs.contracts.exports_home.umv_link.ended Rattle.ummervia.proofs.exports_home.umv_link.Reads.Asked Rattle.ummervia.proofs.exports_home.umv_link.Reads.Learnt
@@ -205,6 +205,6 @@ list_sheet = demanded Listing.list_sheet (λ κs i r v met. list_sheet_law _ r m
 
 -- what `numbers` says of one line, in full: 3 is answered exactly when the sheet has at least 2 bytes, its version is 1, and T is 0
 pub build_three : Always Rattle.sending.specs.contracts.build.ended Rattle.sending.proofs.build.Reads.Learnt
-    (λ κs (bytes, _) r _. (number_of r ≡ 3)
+    (λ κs (bytes, _) r _. (answer_number r ≡ 3)
     ↔ (((Unit {0} × (length bytes.now < 2 → ⊥)) × ((sheet_of bytes.now).version ≢ 1 → ⊥)) × ((sheet_of bytes.now).slots ≡ 0)))
 build_three κs i r v met = (build.as_said κs i r v met).0.numbers.1.1.0

@@ -3,7 +3,7 @@ use mathlib.Core.Path.{◌≡◌, sym, ap, ◌∙◌}
 use mathlib.Core.List.{List}
 use Prim.Native.Nat.{ℕ}
 use Rattle.std.specs.Prelude.{Result}
-use Rattle.counters.specs.Refusals.{number_of, at_of}
+use Rattle.counters.specs.Refusals.{answer_number, at_of}
 use Rattle.counters.specs.declared.refusal.Refusal.{Refusal}
 use Rattle.counters.proofs.LineLaws.{given_yes, given_no}
 use Rattle.counters.proofs.PromiseLaws.{with_lasts}
@@ -25,8 +25,8 @@ module _ {A : Type 0} where
       made e (p ∙ sym (given_yes n count 0 (sym e))) (q ∙ sym (given_yes n new old (sym e)))
 
   -- two that are equal to one: in Rattle an answer and the buffer, in C the number, the buffer and `at`
-  pub answer_and : {L : Type 0} (lasts : List A → L) {x y : Result ℕ Refusal} {a b : List A} {c : Outcome A} → outcome (number_of x) (at_of x) a ≡ c
-      → outcome (number_of y) (at_of y) b ≡ c → (x ≡ y) × (lasts a ≡ lasts b)
+  pub answer_and : {L : Type 0} (lasts : List A → L) {x y : Result ℕ Refusal} {a b : List A} {c : Outcome A} → outcome (answer_number x) (at_of x) a ≡ c
+      → outcome (answer_number y) (at_of y) b ≡ c → (x ≡ y) × (lasts a ≡ lasts b)
   answer_and lasts {x} {y} p q =
       let e = p ∙ sym q in
       (answer_same x y (ap (λ (z : Outcome A). z.number) e) (ap (λ (z : Outcome A). z.at) e), ap (λ (z : Outcome A). lasts z.buffer) e)

@@ -2,7 +2,7 @@
 use Rattle.std.specs.Prelude.{◌≡◌, Bool, not, ◌||◌, cond, List, [], ◌∷◌, ◌++◌, ℕ, Option, Some, None, Result, eqb, ltb, length}
 use Rattle.laws.specs.FirstFail.{first_fail}
 use Rattle.counters.specs.Lines.{Line, line, first_of, given}
-use Rattle.counters.specs.Refusals.{number_of, index_of}
+use Rattle.counters.specs.Refusals.{answer_number, answer_index}
 use Rattle.counters.specs.declared.refusal.Refusal.{Refusal}
 use Rattle.sheet.specs.Numbers.{read_lines}
 use Rattle.sheet.specs.declared.Sheet.{Sheet}
@@ -38,12 +38,12 @@ indexed n bad = cond (eqb n 12) bad 0
 abbrev pub Looks : {A B : Type 0} → (A → Bool) → List Line → List A → ℕ → ℕ → ℕ → Result B Refusal → Type 0
 Looks test head vs needed n room r =
     let k = first_of (head ++ look_lines test vs needed n room) in
-    (number_of r ≡ k) × (index_of r ≡ indexed k (first_fail test vs))
+    (answer_number r ≡ k) × (answer_index r ≡ indexed k (first_fail test vs))
 
 -- 12 at the index of a bad value, where there is one
 abbrev pub Pointed : {A : Type 0} → Option ℕ → Result A Refusal → Type 0
-Pointed None r = (number_of r ≡ 0) × (index_of r ≡ 0)
-Pointed (Some bad) r = (number_of r ≡ 12) × (index_of r ≡ bad)
+Pointed None r = (answer_number r ≡ 0) × (answer_index r ≡ 0)
+Pointed (Some bad) r = (answer_number r ≡ 12) × (answer_index r ≡ bad)
 
 -- all that the call leaves: with number 0, `count` values were written and the buffer is `new`; else it is as it was
 abbrev pub looked : {A : Type 0} → ℕ → ℕ → ℕ → List A → List A → Outcome A

@@ -1,7 +1,7 @@
 -- What asking for one bit and for a channel's link record answers.
 use Rattle.std.specs.Prelude.{Bool, ◌||◌, List, [], ◌∷◌, ◌++◌, ℕ, ◌-◌, eqb, ltb, Float, Result}
 use Rattle.counters.specs.Lines.{Line, line, first_of, given}
-use Rattle.counters.specs.Refusals.{number_of, index_of, value_or}
+use Rattle.counters.specs.Refusals.{answer_number, answer_index, value_or}
 use Rattle.counters.specs.declared.refusal.Refusal.{Refusal}
 use Rattle.sheet.specs.Fields.{sheet_of}
 use Rattle.sheet.specs.Sizes.{size_of, capacity_all}
@@ -74,7 +74,7 @@ link_made n at least greatest punctured =
 
 -- what the calls answer, in these terms
 abbrev pub heard_left : Result Heard Refusal → HeardAnswer
-heard_left r = record { number = number_of r; at = index_of r; heard = value_or Nothing r }
+heard_left r = record { number = answer_number r; at = answer_index r; heard = value_or Nothing r }
 
 abbrev pub link_left : Result Link Refusal → LinkAnswer
-link_left r = record { number = number_of r; at = index_of r; link = value_or no_link r }
+link_left r = record { number = answer_number r; at = answer_index r; link = value_or no_link r }

@@ -1,6 +1,6 @@
 // A channel is finished: steps 2 and 1 undone, out of the buffer of all T_i.
 ghost use Rattle.std.specs.Prelude.{◌≡◌};
-ghost use Rattle.counters.specs.Refusals.{number_of, at_of};
+ghost use Rattle.counters.specs.Refusals.{answer_number, at_of};
 ghost use Rattle.looking.specs.Outcome.{outcome};
 ghost use Rattle.receiving.specs.Receiving.{finish_into};
 
@@ -17,7 +17,7 @@ pub fn finish(
     joined: &[f32],
     coded: &mut [f32],
 ) -> Result<u64, Refusal>
-    ensures { outcome (number_of result) (at_of result) coded.new ≡ finish_into bytes.now trch.0 joined.now coded.old }
+    ensures { outcome (answer_number result) (at_of result) coded.new ≡ finish_into bytes.now trch.0 joined.now coded.old }
 {
     let opened = open_sheet(bytes)?;
     let i = find_trch(&opened.fields, trch)?;

@@ -2,7 +2,7 @@
 #![tactic(auto)]
 
 ghost use Rattle.std.specs.Prelude.{◌≡◌, IfOk, length};
-ghost use Rattle.counters.specs.Refusals.{number_of, at_of};
+ghost use Rattle.counters.specs.Refusals.{answer_number, at_of};
 ghost use Rattle.sheet.specs.Fields.{sheet_of};
 ghost use Rattle.sheet.specs.Sizes.{encoded_all, capacity_all};
 ghost use Rattle.frame.specs.Bit.{is_bit};
@@ -41,7 +41,7 @@ pub fn build(
     contents: &[u8],
     out: &mut [u8],
 ) -> Result<u64, Refusal>
-    ensures { outcome (number_of result) (at_of result) out.new ≡ build_into bytes.now frame.0 contents.now out.old }
+    ensures { outcome (answer_number result) (at_of result) out.new ≡ build_into bytes.now frame.0 contents.now out.old }
 {
     let opened = open_contents(bytes, frame, contents, out.len())?;
     build_bits(contents, &opened, frame, out);
@@ -55,7 +55,7 @@ pub fn multiplex(
     contents: &[u8],
     out: &mut [u8],
 ) -> Result<u64, Refusal>
-    ensures { outcome (number_of result) (at_of result) out.new ≡ multiplex_into bytes.now frame.0 contents.now out.old }
+    ensures { outcome (answer_number result) (at_of result) out.new ≡ multiplex_into bytes.now frame.0 contents.now out.old }
 {
     let opened = open_contents(bytes, frame, contents, out.len())?;
     multiplex_bits(contents, &opened, frame, out);
@@ -64,7 +64,7 @@ pub fn multiplex(
 
 // Steps 8 and 9: the frame of multiplexed bits.
 pub fn spread(bytes: &[u8], bits: &[u8], out: &mut [u8]) -> Result<u64, Refusal>
-    ensures { outcome (number_of result) (at_of result) out.new ≡ spread_into bytes.now bits.now out.old }
+    ensures { outcome (answer_number result) (at_of result) out.new ≡ spread_into bytes.now bits.now out.old }
 {
     let opened = open_sheet(bytes)?;
     let places = opened.capacity();

@@ -2,7 +2,7 @@
 use Rattle.std.specs.Prelude.{Bool, not, ◌&&◌, ◌||◌, List, [], ◌∷◌, ℕ, ◌+◌, ◌-◌, ◌*◌, Result, eqb, ltb, length, get_or}
 use Rattle.laws.specs.Sums.{sum_to, any_to}
 use Rattle.counters.specs.Lines.{Line, line, first_of, given}
-use Rattle.counters.specs.Refusals.{number_of, value_or}
+use Rattle.counters.specs.Refusals.{answer_number, value_or}
 use Rattle.counters.specs.declared.refusal.Refusal.{Refusal}
 use Rattle.bits.specs.Bits.{bits_at}
 use Rattle.sheet.specs.Counts.{most_codes, most_paired, most_lcr_slots, most_bits, most_log}
@@ -89,4 +89,4 @@ read_answer s = record { number = read_number s; sheet = given (read_number s) (
 
 -- what reading a sheet leaves, in these terms
 abbrev pub read_left : Result Sheet Refusal → SheetAnswer
-read_left r = record { number = number_of r; sheet = value_or blank r }
+read_left r = record { number = answer_number r; sheet = value_or blank r }

@@ -1,6 +1,6 @@
 // A sheet read from its bytes, and why the reading refuses it.
 ghost use Rattle.std.specs.Prelude.{◌≡◌, ◌<◌, IfOk};
-ghost use Rattle.counters.specs.Refusals.{index_of, Refuses};
+ghost use Rattle.counters.specs.Refusals.{answer_index, Refuses};
 ghost use Rattle.sheet.specs.Counts.{most_slots};
 ghost use Rattle.sheet.specs.Fields.{sheet_of};
 ghost use Rattle.sheet.specs.Sizes.{places_all};
@@ -139,7 +139,7 @@ pub fn check_bytes(s: &[u8], fields: &Sheet) -> Result<u64, Refusal>
 
 // Reads a sheet.
 pub fn read_sheet(bytes: &[u8]) -> Result<Sheet, Refusal>
-    ensures { (read_left result ≡ read_answer bytes.now) × (index_of result ≡ 0) }
+    ensures { (read_left result ≡ read_answer bytes.now) × (answer_index result ≡ 0) }
 {
     let fields = read_fields(bytes);
     check_bytes(bytes, &fields)?;

@@ -1,6 +1,6 @@
 // The calls in the form in which C has them, which crate ummervia_c exports: further answers are written through references, on a refusal as zeros.
 ghost use Rattle.std.specs.Prelude.{◌≡◌};
-ghost use Rattle.counters.specs.Refusals.{number_of, at_of, answer_in};
+ghost use Rattle.counters.specs.Refusals.{answer_number, at_of, answer_in};
 ghost use Rattle.looking.specs.Outcome.{outcome};
 ghost use Rattle.sheets.specs.Sheets.{read_into, answer_made, length_from, write_from};
 ghost use Rattle.asking.specs.Naming.{name_left, name_answer};
@@ -22,7 +22,7 @@ use sheets::{sheet_length, sheet_read, sheet_write};
 
 // The three calls whose fields are a row of numbers.
 fn read_row(bytes: &[u8], row: &mut [u16]) -> Result<u64, Refusal>
-    ensures { outcome (number_of result) (at_of result) row.new ≡ read_into bytes.now row.old }
+    ensures { outcome (answer_number result) (at_of result) row.new ≡ read_into bytes.now row.old }
 {
     let fields = sheet_read(bytes)?;
     check_length(row.len(), FLAT as u64)?;
@@ -38,7 +38,7 @@ fn length_row(row: &[u16]) -> Result<u64, Refusal>
 }
 
 fn write_row(row: &[u16], bytes: &mut [u8]) -> Result<u64, Refusal>
-    ensures { outcome (number_of result) (at_of result) bytes.new ≡ write_from row.now bytes.old }
+    ensures { outcome (answer_number result) (at_of result) bytes.new ≡ write_from row.now bytes.old }
 {
     check_length(row.len(), FLAT as u64)?;
     sheet_write(&take_sheet(row), bytes)

@@ -1,12 +1,12 @@
 // How C is told of an answer that may refuse: its number, 0 where the call accepts, and `at`.
 ghost use Rattle.std.specs.Prelude.{◌≡◌};
-ghost use Rattle.counters.specs.Refusals.{number_of, index_of, at_of};
+ghost use Rattle.counters.specs.Refusals.{answer_number, answer_index, at_of};
 
 use counters::refusal::Refusal;
 
 // The number.
 pub fn number<T: Drop>(answer: Result<T, Refusal>) -> u32
-    ensures { result ≡ number_of answer }
+    ensures { result ≡ answer_number answer }
 {
     match answer {
         Ok(_) => 0,
@@ -16,7 +16,7 @@ pub fn number<T: Drop>(answer: Result<T, Refusal>) -> u32
 
 // The index of the first bad value with number 12, else 0.
 pub fn index<T: Drop>(answer: Result<T, Refusal>) -> u64
-    ensures { result ≡ index_of answer }
+    ensures { result ≡ answer_index answer }
 {
     match answer {
         Ok(_) => 0,
@@ -26,7 +26,7 @@ pub fn index<T: Drop>(answer: Result<T, Refusal>) -> u64
 
 // Both of a call whose answer is how many values it wrote, which is where `at` then is.
 pub fn tell(answer: Result<u64, Refusal>, at: &mut u64) -> u32
-    ensures { (result ≡ number_of answer) × (at.new ≡ at_of answer) }
+    ensures { (result ≡ answer_number answer) × (at.new ≡ at_of answer) }
 {
     match answer {
         Ok(count) => {

@@ -17,7 +17,7 @@ use Rattle.sheet.specs.Fields.{tti_of, encoded_of, ratio_of, phchs_of, capacity_
 use Rattle.sheet.specs.Sizes.{slot_at}
 use Rattle.sheet.specs.declared.Sheet.{Sheet}
 use Rattle.writing.specs.declared.written.Bits.{Bits}
-use Rattle.writing.specs.Written.{head_values, head_to, channel_bits, code_bits, slots_bits, Holds, Written}
+use Rattle.writing.specs.Written.{head_values, head_to, channel_bits, code_bits, slots_bits, Holds, BitsWritten}
 use Rattle.sheet.proofs.SlotLaws.{width_more}
 
 -- the bits that the writer has room for
@@ -62,10 +62,10 @@ module _ (bs : List ℕ) (n : ℕ) (l : List ℕ) (at w v : ℕ) (h : Holds bs n
 
 -- what a put promises, and what it then comes to where its width and its value are given by equal numbers
 abbrev pub Puts : Bits → Bits → ℕ → ℕ → Type 0
-Puts b r w u = (l : List ℕ) → Written b l → Written r (l ++ field w u)
+Puts b r w u = (l : List ℕ) → BitsWritten b l → BitsWritten r (l ++ field w u)
 
-pub put_as : {b r : Bits} {w u v : ℕ} (x : ℕ) (l : List ℕ) → Written b l → Puts b r w u → w ≡ x → u ≡ v → Written r (l ++ field x v)
-put_as {b} {r} {w} {u} {v} x l h m e q = subst (λ (y : ℕ). Written r (l ++ field y v)) e (subst (λ (y : ℕ). Written r (l ++ field w y)) q (m l h))
+pub put_as : {b r : Bits} {w u v : ℕ} (x : ℕ) (l : List ℕ) → BitsWritten b l → Puts b r w u → w ≡ x → u ≡ v → BitsWritten r (l ++ field x v)
+put_as {b} {r} {w} {u} {v} x l h m e q = subst (λ (y : ℕ). BitsWritten r (l ++ field y v)) e (subst (λ (y : ℕ). BitsWritten r (l ++ field w y)) q (m l h))
 
 module _ (sh : Sheet) where
   -- the bits before channel i with its TTI, and with its E too
@@ -141,7 +141,7 @@ module _ (sh : Sheet) where
   slots_more t = rw (add-one t)
 
   -- one more field of the head
-  pub head_more : (k : ℕ) {b r : Bits} {u : ℕ} → Written b (head_to sh k) → Puts b r (get_or head_widths k 0) u → u ≡ get_or (head_values sh) k 0
-      → Written r (head_to sh (suc k))
+  pub head_more : (k : ℕ) {b r : Bits} {u : ℕ} → BitsWritten b (head_to sh k) → Puts b r (get_or head_widths k 0) u → u ≡ get_or (head_values sh) k 0
+      → BitsWritten r (head_to sh (suc k))
   unfolding head_to
   head_more k h m e = put_as (get_or head_widths k 0) (head_to sh k) h m refl e

@@ -93,6 +93,6 @@ pub record Holds (bs : List ℕ) (n : ℕ) (bits : List ℕ) : Type 0 where
   pub same : (i : ℕ) → get_or bs i 0 ≡ get_or bits i 0
 
 -- the bits of a list are written, and the next place is behind them
-pub record Written (b : Bits) (bits : List ℕ) : Type 0 where
+pub record BitsWritten (b : Bits) (bits : List ℕ) : Type 0 where
   pub holds : Holds b.bits (8 * longest_form) bits
   pub at : b.at ≡ length bits

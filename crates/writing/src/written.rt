@@ -7,7 +7,7 @@ ghost use Rattle.sheet.specs.Layout.{channel_at, slot_width};
 ghost use Rattle.sheet.specs.Fields.{phchs_of, log_of};
 ghost use Rattle.sheet.specs.Sizes.{bytes_needed};
 ghost use Rattle.sheet.specs.Range.{Ranged};
-ghost use Rattle.writing.specs.Written.{head_bits, channel_bits, slots_bits, sheet_bits, bytes_of, length_answer, write_answer, written_to, Written};
+ghost use Rattle.writing.specs.Written.{head_bits, channel_bits, slots_bits, sheet_bits, bytes_of, length_answer, write_answer, written_to, BitsWritten};
 
 use crate::numbers::{check_fields, check_write};
 use counters::refusal::Refusal;
@@ -30,7 +30,7 @@ impl Bits {
     // A field of so many bits, behind those before it.
     fn put(&mut self, width: usize, value: u64)
         requires { (width ≤ 14) × (self.old.at + width ≤ 8 * longest_form) }
-        ensures more { (l : List ℕ) → Written self.old l → Written self.new (l ++ field width value) }
+        ensures more { (l : List ℕ) → BitsWritten self.old l → BitsWritten self.new (l ++ field width value) }
         ensures end { self.new.at ≡ self.old.at + width }
     {
         bits::put_field(&mut self.bits, self.at, width, value);
@@ -38,8 +38,8 @@ impl Bits {
     }
 
     fn put_head(&mut self, fields: &Sheet)
-        requires { Ranged fields.now × Written self.old [] }
-        ensures { Written self.new (head_bits fields.now) }
+        requires { Ranged fields.now × BitsWritten self.old [] }
+        ensures { BitsWritten self.new (head_bits fields.now) }
     {
         let last = u64::from(fields.channels) - 1;
         self.put(VERSION_WIDTH, u64::from(fields.version));
@@ -53,8 +53,8 @@ impl Bits {
     }
 
     fn put_channels(&mut self, fields: &Sheet)
-        requires { Ranged fields.now × Written self.old (head_bits fields.now) }
-        ensures { Written self.new (channel_bits fields.now fields.now.channels) }
+        requires { Ranged fields.now × BitsWritten self.old (head_bits fields.now) }
+        ensures { BitsWritten self.new (channel_bits fields.now fields.now.channels) }
     {
         for i in 0..usize::from(fields.channels) {
             self.put(TTI_WIDTH, u64::from(fields.tti[i]));
@@ -64,8 +64,8 @@ impl Bits {
     }
 
     fn put_slot(&mut self, fields: &Sheet, t: usize)
-        requires { (fields.now.uplink ≤ 1) × (t < most_slots) × (1 ≤ phchs_of fields.now t) × (phchs_of fields.now t ≤ most_codes) × (self.old.at ≤ channel_at most_channels + slot_width 1 most_codes * t) × Written self.old (slots_bits fields.now t) }
-        ensures more { Written self.new (slots_bits fields.now (t + 1)) }
+        requires { (fields.now.uplink ≤ 1) × (t < most_slots) × (1 ≤ phchs_of fields.now t) × (phchs_of fields.now t ≤ most_codes) × (self.old.at ≤ channel_at most_channels + slot_width 1 most_codes * t) × BitsWritten self.old (slots_bits fields.now t) }
+        ensures more { BitsWritten self.new (slots_bits fields.now (t + 1)) }
         ensures room { self.new.at ≤ channel_at most_channels + slot_width 1 most_codes * (t + 1) }
     {
         let n = usize::from(fields.phchs[t]);
@@ -79,8 +79,8 @@ impl Bits {
     }
 
     fn put_slots(&mut self, fields: &Sheet)
-        requires { Ranged fields.now × Written self.old (channel_bits fields.now fields.now.channels) }
-        ensures { Written self.new (sheet_bits fields.now) }
+        requires { Ranged fields.now × BitsWritten self.old (channel_bits fields.now fields.now.channels) }
+        ensures { BitsWritten self.new (sheet_bits fields.now) }
     {
         for t in 0..usize::from(fields.slots) {
             self.put_slot(fields, t);

@@ -2,7 +2,7 @@ use native.Mathlib.Omega.{arith}
 use mathlib.Core.Path.{refl, ap, ◌∙◌, subst}
 use Prim.Native.Nat.{ℕ, ◌-◌}
 use Rattle.sheet.specs.Layout.{tti_width, encoded_width, ratio_width}
-use Rattle.writing.specs.Written.{channel_bits, Written}
+use Rattle.writing.specs.Written.{channel_bits, BitsWritten}
 use Rattle.writing.proofs.HoldLaws.{to_tti, to_encoded, put_as, head_length, channel-more}
 use Rattle.writing.proofs.written.Bits.put_channels.Goals as goal
 
@@ -17,4 +17,4 @@ loop-i-preserved c =
     let h1 = put_as tti_width (channel_bits f i) c.loop-i.invariant.2 c.put.ensures.more refl c.from.ensures in
     let h2 = put_as encoded_width (to_tti f i) h1 c.put-in-loop-i.ensures.more refl c.from-in-loop-i.ensures in
     let h3 = put_as ratio_width (to_encoded f i) h2 c.put-in-loop-i-2.ensures.more refl (ap (λ (x : ℕ). x - 1) c.from-in-loop-i-2.ensures) in
-    (omega arith, omega arith, subst (Written c.put-in-loop-i-2.new.self) (channel-more f i) h3)
+    (omega arith, omega arith, subst (BitsWritten c.put-in-loop-i-2.new.self) (channel-more f i) h3)

@@ -3,7 +3,7 @@ use mathlib.Core.Path.{◌≡◌, refl, ap, subst}
 use Prim.Native.Nat.{ℕ, ◌-◌}
 use Rattle.sheet.specs.Layout.{codes_width, log_width, capacity_width}
 use Rattle.sheet.specs.Fields.{phchs_of}
-use Rattle.writing.specs.Written.{code_bits, slots_bits, Written}
+use Rattle.writing.specs.Written.{code_bits, slots_bits, BitsWritten}
 use Rattle.writing.proofs.HoldLaws.{to_log, put_as, code_more, slots_more}
 use Rattle.writing.proofs.written.Bits.put_slot.Goals as goal
 
@@ -21,7 +21,7 @@ loop-p-preserved c =
     let l = c.loop-p in
     let h1 = put_as (log_width f.uplink) (code_bits f t (slots_bits f t) l.p) l.invariant.4 c.put-in-loop-p.ensures.more l.invariant.2 c.log_at.ensures in
     let h2 = put_as capacity_width (to_log f t l.p) h1 c.put-in-loop-p-2.ensures.more refl c.from.ensures in
-    (omega arith, omega arith, l.invariant.2, l.invariant.3, subst (Written c.put-in-loop-p-2.new.self) (code_more f t l.p) h2)
+    (omega arith, omega arith, l.invariant.2, l.invariant.3, subst (BitsWritten c.put-in-loop-p-2.new.self) (code_more f t l.p) h2)
 
 pub returns-clause-more : goal.returns-clause-more
 returns-clause-more c =
@@ -29,4 +29,4 @@ returns-clause-more c =
     let t = c.args.t in
     let l = c.loop-p in
     let e : l.p ≡ phchs_of f t = omega arith in
-    subst (Written l.self) (slots_more f t) (subst (λ (x : ℕ). Written l.self (code_bits f t (slots_bits f t) x)) e l.invariant.4)
+    subst (BitsWritten l.self) (slots_more f t) (subst (λ (x : ℕ). BitsWritten l.self (code_bits f t (slots_bits f t) x)) e l.invariant.4)
