@@ -1,6 +1,6 @@
 // Frames sent, heard with some places silent, and taken back; and what came home.
 use crate::stops::Stop;
-use crate::trouble::{Trouble, accepted};
+use crate::trouble::Trouble;
 use counters::{FrameNumber, TrchNumber};
 use sheet::Sheet;
 use std::alloc::{AllocError, Global};
@@ -28,8 +28,7 @@ fn hear(alloc: Global, frame: &[u8], silent: &Range<usize>) -> Result<Vec<f32>, 
 
 // The frames are sent and heard, the last one with the silence, and taken back.
 fn come_home(alloc: Global, stop: &Stop<'_>) -> Result<Vec<f32>, Trouble> {
-    let sizes = sizes(stop.sheet);
-    accepted(sizes.number)?;
+    let sizes = sizes(stop.sheet)?;
     let mut joined = vec![in alloc; 0.0f32; sizes.joined as usize]?;
     let last = u32::from(stop.last);
     for n in u32::from(stop.first)..=last {
@@ -41,8 +40,7 @@ fn come_home(alloc: Global, stop: &Stop<'_>) -> Result<Vec<f32>, Trouble> {
             0..0
         };
         let heard = hear(alloc, frame.as_slice(), &silent)?;
-        let taken = take_back(stop.sheet, number, heard.as_slice(), joined.as_mut_slice());
-        accepted(taken.number)?;
+        take_back(stop.sheet, number, heard.as_slice(), joined.as_mut_slice())?;
     }
     Ok(joined)
 }
@@ -68,8 +66,7 @@ pub fn say_home<W: Write>(
         if *e > 0 {
             let trch = TrchNumber::at(i);
             let mut coded = vec![in alloc; 0.0f32; usize::from(*e)]?;
-            let finished = finish(stop.sheet, trch, joined.as_slice(), coded.as_mut_slice());
-            accepted(finished.number)?;
+            finish(stop.sheet, trch, joined.as_slice(), coded.as_mut_slice())?;
             write!(out, "{}:", trch.number())?;
             for value in &coded {
                 say_value(out, *value)?;

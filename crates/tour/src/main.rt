@@ -5,7 +5,7 @@
 use crate::home::say_home;
 use crate::saying::{say_contents, say_frame, say_sheet};
 use crate::stops::{EXAMPLE, Stop, THREE_CHANNELS, TWO_CODES, TWO_SUBFRAMES};
-use crate::trouble::{Trouble, accepted};
+use crate::trouble::Trouble;
 use std::alloc::Global;
 use std::io;
 use std::io::{BufWriter, Write};
@@ -24,9 +24,7 @@ A 0 is sent as +1, a 1 as -1. Of a bit its copies come home added; 0 says that n
 // The sheet, the contents, the last frame with the names of its places, and what came home.
 fn visit<W: Write>(out: &mut W, alloc: Global, stop: &Stop<'_>) -> Result<(), Trouble> {
     say_sheet(out, stop)?;
-    let read = sheet_read(stop.sheet);
-    accepted(read.number)?;
-    let fields = read.sheet;
+    let fields = sheet_read(stop.sheet)?;
     say_contents(out, &fields, stop.bits(alloc)?.as_slice())?;
     say_frame(out, alloc, stop, &fields)?;
     writeln!(out, "{}; what came home:", stop.sending)?;
@@ -39,7 +37,7 @@ fn main(rt: HostRuntime) -> io::Result<()> {
     for stop in [&EXAMPLE, &THREE_CHANNELS, &TWO_CODES, &TWO_SUBFRAMES] {
         match visit(&mut out, rt.alloc(), stop) {
             Ok(()) => {}
-            Err(Trouble::Refused(number)) => writeln!(out, "refused {number}")?,
+            Err(Trouble::Refused(refusal)) => writeln!(out, "refused {}", refusal.number())?,
             Err(Trouble::Output(e)) => return Err(e),
         }
     }

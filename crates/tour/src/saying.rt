@@ -115,16 +115,13 @@ impl fmt::Display for Named {
 }
 
 // The names of the places of a physical channel.
-fn say_places<W: Write>(out: &mut W, stop: &Stop<'_>, phch: &Phch) -> io::Result<()> {
+fn say_places<W: Write>(out: &mut W, stop: &Stop<'_>, phch: &Phch) -> Result<(), Trouble> {
     let subframe = phch.subframe.unwrap_or(1);
     let number = PhchNumber(phch.number);
     for place in 1..=u32::from(phch.places) {
-        let answer = name(stop.sheet, stop.last(), subframe, phch.slot, number, place);
-        if answer.number == 0 {
-            let name = answer.name;
-            let is_filler = name.bit.number() > channel(stop.sheet, name.trch).e;
-            write!(out, " {}", Named { name, is_filler })?;
-        }
+        let name = name(stop.sheet, stop.last(), subframe, phch.slot, number, place)?;
+        let is_filler = name.bit.number() > channel(stop.sheet, name.trch)?.e;
+        write!(out, " {}", Named { name, is_filler })?;
     }
     Ok(())
 }

@@ -1,5 +1,5 @@
 // What the tour stops at: four sheets, and what is sent by them.
-use crate::trouble::{Trouble, accepted};
+use crate::trouble::Trouble;
 use counters::FrameNumber;
 use std::alloc::{AllocError, Global};
 use std::ops::Range;
@@ -35,16 +35,14 @@ impl Stop<'_> {
     // The frame that carries them.
     pub fn frame(&self, alloc: Global, number: FrameNumber) -> Result<Vec<u8>, Trouble> {
         let contents = self.bits(alloc)?;
-        let sizes = sizes(self.sheet);
-        accepted(sizes.number)?;
+        let sizes = sizes(self.sheet)?;
         let mut frame = vec![in alloc; 0u8; sizes.capacity as usize]?;
-        let built = build(
+        build(
             self.sheet,
             number,
             contents.as_slice(),
             frame.as_mut_slice(),
-        );
-        accepted(built.number)?;
+        )?;
         Ok(frame)
     }
 }

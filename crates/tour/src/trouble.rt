@@ -1,11 +1,18 @@
 // Why a stop of the tour ends before all is printed.
+use counters::refusal::Refusal;
 use std::alloc::AllocError;
 use std::io;
 
 #[derive(Debug, Drop)]
 pub enum Trouble {
-    Refused(u32),
+    Refused(Refusal),
     Output(io::Error),
+}
+
+impl From<Refusal> for Trouble {
+    fn from(refusal: Refusal) -> Trouble {
+        Trouble::Refused(refusal)
+    }
 }
 
 impl From<io::Error> for Trouble {
@@ -17,14 +24,5 @@ impl From<io::Error> for Trouble {
 impl From<AllocError> for Trouble {
     fn from(e: AllocError) -> Trouble {
         Trouble::Output(io::Error::from(e))
-    }
-}
-
-// A call's number, which is 0 where the call is accepted.
-pub fn accepted(number: u32) -> Result<(), Trouble> {
-    if number == 0 {
-        Ok(())
-    } else {
-        Err(Trouble::Refused(number))
     }
 }
