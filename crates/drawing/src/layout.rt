@@ -7,8 +7,8 @@ use crate::labels::{LEFT, say_head, say_labels};
 use crate::scale::{Scale, head};
 use crate::text::say_text;
 use counters::{FrameNumber, PhchNumber, TrchNumber};
+use sheet::Sheet;
 use sheet::counts::{CHANNELS, CODES, PAIRED};
-use sheet::{Sheet, wide};
 use std::alloc::{AllocError, Global};
 use std::io::Write;
 use std::{fmt, io};
@@ -80,20 +80,26 @@ impl Drawing<'_> {
     // E of a channel, 0 where there is none.
     fn encoded(&self, trch: TrchNumber) -> u64 {
         if trch.is_among(CHANNELS as u16) {
-            return wide(self.fields.e[trch.index()]);
+            return u64::from(self.fields.e[trch.index()]);
         }
         0
     }
 
-    // What a place of a PhCH looks like.
+    // What a place of a PhCH looks like; where there is no place, nothing is of a channel or marked.
     fn look(&self, phch: Phch, place: u32) -> Look {
         let subframe = phch.subframe.unwrap_or(1);
         let number = PhchNumber(phch.number);
-        let name = name(self.sheet, self.frame, subframe, phch.slot, number, place).name;
-        Look {
-            trch: name.trch,
-            is_copy: name.copy > 0,
-            is_filler: name.bit.number() > self.encoded(name.trch),
+        match name(self.sheet, self.frame, subframe, phch.slot, number, place) {
+            Ok(name) => Look {
+                trch: name.trch,
+                is_copy: name.copy > 0,
+                is_filler: name.bit.number() > self.encoded(name.trch),
+            },
+            Err(_) => Look {
+                trch: TrchNumber(0),
+                is_copy: false,
+                is_filler: false,
+            },
         }
     }
 

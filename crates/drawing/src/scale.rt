@@ -2,7 +2,6 @@
 ghost use Rattle.std.specs.Prelude.{◌≤◌, ◌<◌};
 
 use sheet::counts::CODES;
-use sheet::wide;
 
 #[derive(Clone, Copy)]
 pub enum Scale {
@@ -94,7 +93,7 @@ impl Scale {
     pub fn lines(self, n: u16) -> u64
         ensures { result ≤ 65535 }
     {
-        wide(n).div_ceil(self.line())
+        u64::from(n).div_ceil(self.line())
     }
 
     // The number of the place that a line of a PhCH begins with, by the number of lines before it.
