@@ -9,7 +9,7 @@ use sheet::counts::CHANNELS;
 use std::fmt::Display;
 use std::io::Write;
 use std::{fmt, io};
-use ummervia::{ChannelAnswer, channel};
+use ummervia::{ChannelSizes, channel};
 
 // The middle of the line of the marks and of that of the first channel, and from one channel to the next, in px.
 const MARKS: u64 = 56;
@@ -82,18 +82,12 @@ pub fn say_marks<W: Write>(out: &mut W) -> io::Result<()> {
 #[derive(Clone, Copy)]
 struct Numbers {
     trch: TrchNumber,
-    of: ChannelAnswer,
+    of: ChannelSizes,
 }
 
 impl fmt::Display for Numbers {
     fn fmt<W: fmt::Write>(&self, f: &mut fmt::Formatter<W>) -> fmt::Result {
-        let ChannelAnswer {
-            f: frames,
-            e,
-            n,
-            v,
-            ..
-        } = self.of;
+        let ChannelSizes { f: frames, e, n, v } = self.of;
         write!(
             f,
             "TrCH {}: TTI {frames}0 ms, E {e}, N {n}, V {v}: ",
@@ -116,8 +110,7 @@ impl fmt::Display for Numbers {
 pub fn say_channels<W: Write>(out: &mut W, sheet: &[u8]) -> io::Result<()> {
     for i in 0..CHANNELS {
         let trch = TrchNumber::at(i);
-        let of = channel(sheet, trch);
-        if of.number == 0 {
+        if let Ok(of) = channel(sheet, trch) {
             let y = FIRST + LINE * i as u64;
             say_sample(out, 10, y, &[Layer::Channel(trch)], Numbers { trch, of })?;
         }

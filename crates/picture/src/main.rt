@@ -3,13 +3,14 @@
 // gives an SVG too, which says the number and what it means.
 #![tactic(auto)]
 
+use counters::refusal::Refusal;
 use counters::{FrameNumber, PhchNumber};
 use drawing::layout::Drawing;
 use drawing::scale::Scale;
 use legend::{FIRST, LINE, say_channels, say_marks, say_title};
 use refusal::say_refusal;
+use sheet::Sheet;
 use sheet::counts::LONGEST_FORM;
-use sheet::{Sheet, wide};
 use std::alloc::Global;
 use std::io;
 use std::io::{BufWriter, Write};
@@ -30,19 +31,15 @@ fn open_picture<W: Write>(out: &mut W, height: u64) -> io::Result<()> {
     writeln!(out, "<rect width=\"100%\" height=\"100%\" fill=\"#fff\"/>")
 }
 
-// The fields of the sheet and the places of its frame, or the number that refuses the sheet or the frame number. The first place is in every
-// frame: its name is refused as any other's of the sheet and the frame number is.
-fn read(sheet: &[u8], frame: FrameNumber) -> Result<(Sheet, u64), u32> {
-    let first = name(sheet, frame, 1, 1, PhchNumber(1), 1);
-    if first.number == 0 {
-        Ok((sheet_read(sheet).sheet, sizes(sheet).capacity))
-    } else {
-        Err(first.number)
-    }
+// The fields of the sheet and the places of its frame, or why the sheet or the frame number is refused. The first place is in every frame: its
+// name is refused as any other's of the sheet and the frame number is.
+fn read(sheet: &[u8], frame: FrameNumber) -> Result<(Sheet, u64), Refusal> {
+    name(sheet, frame, 1, 1, PhchNumber(1), 1)?;
+    Ok((sheet_read(sheet)?, sizes(sheet)?.capacity))
 }
 
 fn draw<W: Write>(out: &mut W, drawing: &Drawing<'_>, capacity: u64) -> io::Result<()> {
-    let top = FIRST + LINE * wide(drawing.fields.channels);
+    let top = FIRST + LINE * u64::from(drawing.fields.channels);
     open_picture(out, drawing.bottom(top) + 10)?;
     say_style(out, drawing.scale)?;
     say_title(out, drawing, capacity)?;
@@ -68,9 +65,9 @@ fn picture<W: Write>(
             };
             draw(out, &drawing, capacity)?;
         }
-        Err(number) => {
+        Err(refusal) => {
             open_picture(out, 50)?;
-            say_refusal(out, number)?;
+            say_refusal(out, refusal)?;
         }
     }
     writeln!(out, "</svg>")
