@@ -5,11 +5,6 @@ use Rattle.sheet.specs.Counts.{most_bits}
 use Rattle.interleaving.specs.Columns.{height}
 use Rattle.interleaving.specs.Second.{comes_from}
 
--- four elements of src, from j on and s apart, put into w from k on and t apart
-abbrev pub four : {A : Type 0} → A → List A → ℕ → ℕ → List A → ℕ → ℕ → List A
-four z src j s w k t =
-    slice_set (slice_set (slice_set (slice_set w k (slice_index_or src j z)) (k + t) (slice_index_or src (j + s) z)) (k + 2 * t) (slice_index_or src (j + 2 * s) z)) (k + 3 * t) (slice_index_or src (j + 3 * s) z)
-
 -- of K elements, step 8 puts element c and every 30th behind it to the indices from k on
 pub record Down (K c k : ℕ) : Type 0 where
   pub near : c ≤ K + 30

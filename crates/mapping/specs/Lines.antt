@@ -77,13 +77,6 @@ abbrev pub short_slot : ℕ
 short_slot = 512
 
 -- the n bits of a slot are those from index `at` on of K elements, whose turns in step 8 are known
-pub record Threaded (K at n : ℕ) (begins columns : List ℕ) : Type 0 where
-  pub begun : Turned K begins
-  pub ordered : columns ≡ order
-  pub inside : at + n ≤ K
-  pub most : K ≤ most_bits
-
--- the same of turns that are known
 pub record Lent (K at n : ℕ) (t : Turns) : Type 0 where
   pub all : t.n ≡ K
   pub inside : at + n ≤ K

@@ -24,10 +24,6 @@ abbrev pub multiplex_into : List ℕ → ℕ → List ℕ → List ℕ → Outco
 multiplex_into s frame contents old =
     looked (first_of (content_lines s frame contents (length old))) (first_bad contents) (capacity_all (sheet_of s)) (multiplexed_bits (sheet_of s) frame contents) old
 
--- the one or the other
-abbrev pub send_into : Bool → List ℕ → ℕ → List ℕ → List ℕ → Outcome ℕ
-send_into whole s frame contents old = cond whole (build_into s frame contents old) (multiplex_into s frame contents old)
-
 -- spread: the sheet's own numbers, then the multiplexed bits, of which D are needed, and D places
 abbrev pub spread_lines : List ℕ → List ℕ → ℕ → List Line
 spread_lines s bits n = read_lines s ++ look_lines is_bit bits (capacity_all (sheet_of s)) n (capacity_all (sheet_of s))

@@ -1,8 +1,6 @@
 // The format sheet: its fields, how they are read from bytes, and the sizes that they give.
 #![tactic(auto)]
 
-ghost use Rattle.std.specs.Prelude.{◌≡◌, ◌≤◌};
-
 pub mod counts;
 pub mod fields;
 pub mod layout;
@@ -28,17 +26,4 @@ pub struct Sheet {
     pub phchs: [u16; SLOTS],
     pub caps: [u16; CAPACITIES],
     pub logs: [u16; LOGS],
-}
-
-// A field as a number to calculate with, and as a count of turns.
-pub fn wide(x: u16) -> u64
-    ensures { (result ≡ x) × (result ≤ 65535) }
-{
-    x as u64
-}
-
-pub fn count(x: u16) -> usize
-    ensures { (result ≡ x) × (result ≤ 65535) }
-{
-    x as usize
 }
