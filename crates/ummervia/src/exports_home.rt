@@ -89,7 +89,11 @@ pub fn umv_link(
     ensures { link_made result at.new least.new greatest.new punctured.new ≡ link_answer bytes.now frame_number frame.now trch }
 {
     let answer = link(bytes, FrameNumber(frame_number), frame, TrchNumber(trch));
-    let found = answer.unwrap_or(Link::new());
+    let found = answer.unwrap_or(Link {
+        least: 0.0,
+        greatest: 0.0,
+        punctured: 0,
+    });
     *at = index(answer);
     *least = found.least;
     *greatest = found.greatest;

@@ -10,8 +10,7 @@ use Rattle.looking.proofs.LookLaws.{number_first, number_second}
 use Rattle.looking.proofs.OutcomeLaws.{wrote_no}
 use Rattle.sheets.specs.Sheets.{not_flat}
 use Rattle.ummervia.proofs.exports.read_row.Goals as goal
-use mathlib.Core.Path.{◌≡◌, ap, ◌∙◌}
-use Prim.Native.Nat.{ℕ}
+use mathlib.Core.Path.{ap}
 use Rattle.sheet.specs.Numbers.{SheetAnswer}
 
 pub returns-in_err-fields : goal.returns-in_err-fields
