@@ -21,14 +21,15 @@ fn fill(dst: &mut [u8], from: usize)
     dst[from..].fill(0);
 }
 
-// Bits side by side, and fillers behind them.
+// Bits side by side, and fillers behind them. `copy_from_slice` would have the archive ask for memmove, which a licensee need not have.
 fn copy_beside(bits: &[u8], dst: &mut [u8])
     requires { length bits.now ≤ length dst.old }
     ensures { dst.new ≡ bits.now ++ replicate (length dst.old - length bits.now) 0 }
 {
-    let count = bits.len();
-    dst[..count].copy_from_slice(bits);
-    fill(dst, count);
+    for (i, b) in bits.iter().enumerate() {
+        dst[i] = *b;
+    }
+    fill(dst, bits.len());
 }
 
 // Bits with a step between them.
@@ -47,7 +48,7 @@ fn copy_by(src: &[u8], from: usize, step: usize, dst: &mut [u8])
     }
 }
 
-// d = 0: the bits as they are. Where they stand side by side the library copies many of them a turn.
+// d = 0: the bits as they are. Where they stand side by side the compiler copies many of them a turn.
 fn copy(src: &[u8], from: usize, step: usize, dst: &mut [u8])
     requires { Strided step (length dst.old) (length src.now) }
     ensures { dst.new ≡ every 0 from step (length dst.old) src.now }
