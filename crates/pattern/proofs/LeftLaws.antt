@@ -13,7 +13,7 @@ use Rattle.laws.proofs.TodoLaws.{Todo, todo_all, todo_turn, todo_over, todo_put,
 use Rattle.matching.specs.Signed.{signed_by}
 use Rattle.pattern.specs.Pattern.{walked, matched, as_is, Rates, Segment}
 use Rattle.pattern.specs.Every.{every, Strided}
-use Rattle.pattern.specs.Run.{Copied, Gone}
+use Rattle.pattern.specs.Run.{Copied, Ran, Gone}
 use Rattle.pattern.proofs.WalkLaws.{walked_keep, walked-drop, walked_more, walked-map, walked_of}
 use Rattle.pattern.proofs.MatchedLaws.{length-matched}
 use Rattle.pattern.proofs.SegmentLaws.{matched_by}
@@ -129,12 +129,17 @@ module _ {less : Bool} {m n from step : ℕ} {src : List ℕ} {start : ℕ} {old
       sending_next e k j c g w (q (omega arith)) h (b c (omega arith)) (t c (omega arith))
 
 pub sending_run : {less : Bool} {m n from step : ℕ} {src : List ℕ} {start : ℕ} {old dst dst' : List ℕ} {e k j e' k' j' : ℕ}
+    → Sending less m n from step src start old dst e k j → Strided step n (length src) → (r : Ran (2 * m) src dst dst' e k j e' k' j')
+    → (0 < r.bits → step ≡ 1) → Sending less m n from step src start old dst' e' k' j'
+sending_run {m = m} {e = e} {e' = e'} s w r b =
+    let q : e' ≡ e - r.bits * (2 * m) = omega (arith, r.falls) in
+    rw (q, r.puts, r.reads) (sending_keeps r.bits (sending_put s r.copied) w b (omega (arith, r.falls, r.above)) r.within r.copied.there)
+
+-- from one bit to the next, and over a run behind it
+pub sending_gone : {less : Bool} {m n from step : ℕ} {src : List ℕ} {start : ℕ} {old dst dst' : List ℕ} {e k j e' k' j' : ℕ}
     → Sending less m n from step src start old dst e k (j + step) → Strided step n (length src) → Gone step (2 * m) src dst dst' e k j e' k' j'
     → Sending less m n from step src start old dst' e' k' j'
-sending_run {m = m} {e = e} {e' = e'} s w g =
-    let r = g.run in
-    let q : e' ≡ e - r.bits * (2 * m) = omega (arith, r.falls) in
-    rw (q, r.puts, r.reads) (sending_keeps r.bits (sending_put s r.copied) w g.beside (omega (arith, r.falls, r.above)) r.within r.copied.there)
+sending_gone s w g = sending_run s w g.run g.beside
 
 -- a bit that is dropped
 pub sending_drop : {m n from step : ℕ} {src : List ℕ} {start : ℕ} {old dst : List ℕ} {e k j : ℕ} (s : Sending true m n from step src start old dst e k j)

@@ -20,12 +20,28 @@ pub fn run_of(p: usize, q: usize) -> usize
     16
 }
 
-// Eight bits. All are read before the first is written, so that the compiler takes the eight at once.
+// Eight bits. All are read before the first is written, so that the compiler takes the eight at once; `copy_from_slice` would first ask whether
+// the two overlap, and on an array between them too.
 fn copy_eight(src: &[u8], j: usize, dst: &mut [u8], k: usize)
     requires { (j + 7 < length src.now) × (k + 7 < length dst.old) }
     ensures { Copied src.now dst.old dst.new j k 8 }
 {
-    dst[k..k + 8].copy_from_slice(&src[j..j + 8]);
+    let a = src[j];
+    let b = src[j + 1];
+    let c = src[j + 2];
+    let d = src[j + 3];
+    let e = src[j + 4];
+    let f = src[j + 5];
+    let g = src[j + 6];
+    let h = src[j + 7];
+    dst[k] = a;
+    dst[k + 1] = b;
+    dst[k + 2] = c;
+    dst[k + 3] = d;
+    dst[k + 4] = e;
+    dst[k + 5] = f;
+    dst[k + 6] = g;
+    dst[k + 7] = h;
 }
 
 // So many bits, by eights: up to seven more are written, over which others are written later. A run copied by its own length would be a loop
@@ -60,7 +76,7 @@ impl Stand {
 
     // Over bits side by side the walk goes on by `run` bits, where e stays above 0 and both ends are far enough, and by one bit more in some
     // runs. A run of one or two bits is not worth a block.
-    fn send_run(self, src: &[u8], dst: &mut [u8], q: usize, run: usize) -> Stand
+    pub fn send_run(self, src: &[u8], dst: &mut [u8], q: usize, run: usize) -> Stand
         requires { (run ≤ 16) × (q ≤ 2 * most_bits) × (0 < self.e) }
         ensures { Ran q src.now dst.old dst.new self.e self.k self.j result.e result.k result.j }
     {

@@ -4,7 +4,7 @@ use Prim.Native.Nat.{◌+◌, ◌*◌, ◌≤◌}
 use native.Mathlib.Omega.{arith}
 use lib.ListN.{length}
 use Rattle.pattern.proofs.SegmentLaws.{begins, sized_less}
-use Rattle.pattern.proofs.LeftLaws.{Sending, sending_starts, sending_keep, kept_room, sending_drop, sending_run, sending_ends}
+use Rattle.pattern.proofs.LeftLaws.{Sending, sending_starts, sending_keep, kept_room, sending_drop, sending_gone, sending_ends}
 use Rattle.pattern.proofs.puncture.Goals.{then-q-s, else-q-s, Joined-q-s}
 use Rattle.pattern.proofs.puncture.Goals as goal
 
@@ -34,7 +34,7 @@ pub loop-s-preserved : goal.loop-s-preserved
 loop-s-preserved c =
     let t = turned (goal.at.loop-s-preserved c).Joined-q-s in
     let g = c.on-s.ensures in
-    (omega (arith, t.0, g.run.falls), c.loop-s.invariant.1, sending_run t.1 c.requires.1 g)
+    (omega (arith, t.0, g.run.falls), c.loop-s.invariant.1, sending_gone t.1 c.requires.1 g)
 
 pub returns : goal.returns
 returns c = c.fill.ensures ∙ sending_ends c.loop-s.invariant.2 c.requires.2 (omega arith)

@@ -4,7 +4,7 @@ use Prim.Native.Nat.{◌+◌, ◌*◌, ◌-◌}
 use native.Mathlib.Omega.{arith}
 use lib.ListN.{length, get_or, set}
 use Rattle.pattern.proofs.SegmentLaws.{begins}
-use Rattle.pattern.proofs.LeftLaws.{Sending, sending_starts, sending_over, sending_keep, sending_more, more_room, sending_run, sending_ends}
+use Rattle.pattern.proofs.LeftLaws.{Sending, sending_starts, sending_over, sending_keep, sending_more, more_room, sending_gone, sending_ends}
 use Rattle.pattern.proofs.repeat.Goals.{After-loop-s-2}
 use Rattle.pattern.proofs.repeat.Goals as goal
 
@@ -47,7 +47,7 @@ loop-s-smaller c = omega (arith, c.on-s.ensures.run.reads, c.requires.1.some)
 pub loop-s-preserved : goal.loop-s-preserved
 loop-s-preserved c =
     let g = c.on-s.ensures in
-    (omega (arith, g.run.falls), sending_run (turned (goal.at.loop-s-preserved c).After-loop-s-2) c.requires.1 g)
+    (omega (arith, g.run.falls), sending_gone (turned (goal.at.loop-s-preserved c).After-loop-s-2) c.requires.1 g)
 
 pub returns : goal.returns
 returns c = c.fill.ensures ∙ sending_ends c.loop-s.invariant.1 c.requires.2 (omega arith)
