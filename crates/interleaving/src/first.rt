@@ -15,9 +15,13 @@ pub fn finish(part: &[f32], tti: usize, n: usize, out: &mut [f32])
     for s in 0..f {
         let mut i = s * n;
         let p = usize::from(row[s]);
-        for k in (p..out.len()).step_by(f) {
+        let mut k = p;
+        // By `while`, which asks once at each value whether the column goes on: `step_by` asks twice, and of a `for` over counted rows the compiler
+        // makes vectors, which cost short columns more.
+        while k < out.len() {
             out[k] = part[i];
             i += 1;
+            k += f;
         }
     }
 }

@@ -5,7 +5,7 @@ use Prim.Native.Nat.{ℕ, ◌<◌}
 use lib.ListN.{length, get_or}
 use Rattle.orders.specs.Orders.{column_at}
 use Rattle.interleaving.proofs.FinishWalk.{resized, enters, long, reads_in, put, leaves, ends}
-use Rattle.interleaving.proofs.first.finish.Goals.{In-loop-k, else-loop-k-test, then-loop-k-test+else-f-k-end}
+use Rattle.interleaving.proofs.first.finish.Goals.{In-loop-k}
 use Rattle.interleaving.proofs.first.finish.Goals as goal
 
 pub loop-k-init : goal.loop-k-init
@@ -22,6 +22,15 @@ inside c = let l = c.loop-k in reads_in l.invariant (omega (arith, long l.invari
 pub bounds-part-i : goal.bounds-part-i
 bounds-part-i c = inside (goal.at.bounds-part-i c).In-loop-k
 
+pub overflow_add-i : goal.overflow_add-i
+overflow_add-i c = omega (arith, inside (goal.at.overflow_add-i c).In-loop-k)
+
+pub overflow_add-k : goal.overflow_add-k
+overflow_add-k c = omega (arith, c.frames-f.ensures.2)
+
+pub loop-k-smaller : goal.loop-k-smaller
+loop-k-smaller c = omega (arith, long c.loop-k.invariant, c.frames-f.ensures.1)
+
 pub loop-k-preserved : goal.loop-k-preserved
 loop-k-preserved c =
     let l = c.loop-k in
@@ -30,12 +39,7 @@ loop-k-preserved c =
 pub loop-s-preserved : goal.loop-s-preserved
 loop-s-preserved c =
     let g = c.loop-k.invariant in
-    let e = c.loop-s.invariant.filling.long in
-    elim c.loop-k-test.branch [
-      | else-loop-k-test w ↦ rw w.out-is (resized (leaves g (omega (arith, long g))) e)
-      | then-loop-k-test+else-f-k-end w ↦
-          rw w.out-is (resized (leaves (put g (omega (arith, long g)) c.frames-f.ensures.0) (omega (arith, long g))) e)
-    ]
+    resized (leaves g (omega (arith, long g))) c.loop-s.invariant.filling.long
 
 pub returns : goal.returns
 returns c =

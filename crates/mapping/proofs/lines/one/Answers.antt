@@ -1,13 +1,12 @@
-use Rattle.std.proofs.Common.{length, arith}
-use Rattle.interleaving.proofs.DirectionLaws.{direction_laws}
+use Rattle.std.proofs.Common.{arith}
+use Rattle.interleaving.proofs.DirectionLaws.{direction_laws, one_inside}
 use Rattle.mapping.proofs.lines.one.Goals as goal
 
+-- as of the seat, so of the index: an edit that takes one for the other is refused where what is copied differs
 pub one-requires : goal.one-requires
 one-requires g c =
-    let d = g.D.Direction in
-    let l = direction_laws g.met.D.Direction.directed in
-    let f = length c.args.from.now in
-    let t = length c.args.to.now in
-    let w = c.args.w in
-    let b = l.below w.seat w.place (d.reads f t) (d.writes f t) c.requires.seat c.requires.place in
-    (omega (arith, b.0, l.either f t), omega (arith, b.1, l.either f t))
+    let b = g.met.D.Direction.directed in
+    let a = c.args in
+    let z = (direction_laws b).sizes a.from.now a.to.now in
+    let p = c.requires in
+    one_inside b a.from.now a.to.now (omega (arith, z.0, p.seat, p.index.1)) (omega (arith, z.1, p.place))
