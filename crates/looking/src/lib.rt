@@ -13,7 +13,7 @@ use counters::refusal::Refusal;
 use counters::{FrameNumber, TrchNumber};
 use frame::checking::first_bad;
 use joining::checking::first_out;
-use opening::{Opened, open_sheet};
+use opening::{Opened, open_unless};
 use sheet::Sheet;
 
 pub const LAST_FRAME: u32 = 255;
@@ -23,11 +23,7 @@ pub fn open_frame(bytes: &[u8], frame: FrameNumber) -> Result<Opened, Refusal>
     ensures number { Refuses (frame_lines bytes.now frame.0) result }
     ensures opened { IfOk result (λ o. o.fields ≡ sheet_of bytes.now) }
 {
-    let opened = open_sheet(bytes)?;
-    if frame.is_over(LAST_FRAME) {
-        return Err(Refusal::LateFrame);
-    }
-    Ok(opened)
+    open_unless(bytes, frame.is_over(LAST_FRAME))
 }
 
 // Number 10: where TrCH k, counted from 1, stands among the channels.

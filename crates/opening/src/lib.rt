@@ -1,7 +1,8 @@
 // A sheet opened once: its fields, and the numbers that every frame needs of them.
 #![tactic(auto)]
 
-ghost use Rattle.std.specs.Prelude.{◌≡◌, ◌≤◌, ◌<◌, IfOk};
+ghost use Rattle.std.specs.Prelude.{◌≡◌, [], ◌∷◌, ◌++◌, ◌≤◌, ◌<◌, IfOk};
+ghost use Rattle.counters.specs.Lines.{line};
 ghost use Rattle.counters.specs.Refusals.{Refuses};
 ghost use Rattle.sheet.specs.Counts.{most_bits};
 ghost use Rattle.sheet.specs.Fields.{sheet_of};
@@ -42,18 +43,24 @@ fn sizes(fields: &Sheet) -> [u16; CHANNELS]
     all
 }
 
-// The numbers of accepted fields and their D.
-fn open_fields(fields: Sheet, d: u64) -> Opened
-    requires { Accepted fields × (d ≡ capacity_all fields) }
-    ensures { result.fields ≡ fields }
+// Opens a sheet's bytes, or refuses with 9 behind the sheet's own numbers where the frame number is late: asked here, a sheet that is opened for a frame is
+// not moved once more.
+pub fn open_unless(bytes: &[u8], late: bool) -> Result<Opened, Refusal>
+    ensures number { Refuses (read_lines bytes.now ++ line late 9 ∷ []) result }
+    ensures opened { IfOk result (λ o. o.fields ≡ sheet_of bytes.now) }
 {
-    let sizes = sizes(&fields);
-    let cuts = cuts(&fields, d);
-    Opened {
-        fields,
-        sizes,
-        cuts,
+    let fields = read_fields(bytes);
+    let w = check_bytes(bytes, &fields)?;
+    if late {
+        return Err(Refusal::LateFrame);
     }
+    let d = fields.frame_places(w);
+    // Calculated where they stand, and the fields last: with a variable for either the fields would be copied once more.
+    Ok(Opened {
+        sizes: sizes(&fields),
+        cuts: cuts(&fields, d),
+        fields,
+    })
 }
 
 // Opens a sheet's bytes: every call begins with this.
@@ -61,10 +68,7 @@ pub fn open_sheet(bytes: &[u8]) -> Result<Opened, Refusal>
     ensures number { Refuses (read_lines bytes.now) result }
     ensures opened { IfOk result (λ o. o.fields ≡ sheet_of bytes.now) }
 {
-    let fields = read_fields(bytes);
-    let w = check_bytes(bytes, &fields)?;
-    let d = fields.frame_places(w);
-    Ok(open_fields(fields, d))
+    open_unless(bytes, false)
 }
 
 impl Opened {
