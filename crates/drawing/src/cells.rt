@@ -14,6 +14,13 @@ pub struct Look {
     pub is_filler: bool,
 }
 
+// That of no channel's place.
+pub const NOTHING: Look = Look {
+    trch: TrchNumber(0),
+    is_copy: false,
+    is_filler: false,
+};
+
 // The layers of a picture, drawn one over the other: one for each channel, then the marks. A filler is a black box with a white hole. `Bare` is
 // a cell of no channel, for the legend.
 #[derive(Clone, Copy)]

@@ -2,17 +2,18 @@
 ghost use Rattle.std.specs.Prelude.{◌+◌, ◌≤◌, ◌<◌};
 ghost use Rattle.sheet.specs.Counts.{most_slots};
 
-use crate::cells::{Look, say_cells};
+use crate::cells::{Look, NOTHING, say_cells};
 use crate::labels::{LEFT, say_head, say_labels};
 use crate::scale::{Scale, head};
 use crate::text::say_text;
 use counters::{FrameNumber, PhchNumber, TrchNumber};
 use sheet::Sheet;
-use sheet::counts::{CHANNELS, CODES, PAIRED};
-use std::alloc::{AllocError, Global};
+use sheet::counts::{CHANNELS, CODES, MOST_CAPACITY, PAIRED};
 use std::io::Write;
 use std::{fmt, io};
 use ummervia::name;
+
+const MOST_PLACES: usize = MOST_CAPACITY as usize;
 
 // A physical channel of the frame: its sub-frame where there are two, its slot and its own number, counted from 1, and its capacity.
 #[derive(Clone, Copy)]
@@ -33,10 +34,9 @@ impl fmt::Display for Phch {
     }
 }
 
-// A frame to be drawn: its sheet, as bytes and as fields, its number, and how large; and what gives the memory for it.
+// A frame to be drawn: its sheet, as bytes and as fields, its number, and how large.
 #[derive(Clone, Copy)]
 pub struct Drawing<'a> {
-    pub alloc: Global,
     pub sheet: &'a [u8],
     pub fields: &'a Sheet,
     pub frame: FrameNumber,
@@ -95,22 +95,27 @@ impl Drawing<'_> {
                 is_copy: name.copy > 0,
                 is_filler: name.bit.number() > self.encoded(name.trch),
             },
-            Err(_) => Look {
-                trch: TrchNumber(0),
-                is_copy: false,
-                is_filler: false,
-            },
+            Err(_) => NOTHING,
         }
     }
 
-    fn looks(&self, phch: Phch) -> Result<Vec<Look>, AllocError> {
-        (1..=u32::from(phch.places))
-            .map(|place| self.look(phch, place))
-            .collect(self.alloc)
+    // What its places look like, at the start of the room lent, which has room for all: no sheet has a longer PhCH.
+    fn looks<'r>(&self, phch: Phch, room: &'r mut [Look; MOST_PLACES]) -> &'r [Look] {
+        let n = usize::from(phch.places.min(MOST_CAPACITY));
+        for (i, look) in room.iter_mut().take(n).enumerate() {
+            *look = self.look(phch, i as u32 + 1);
+        }
+        &room[..n]
     }
 
     // A PhCH whose cells begin at y: its labels and, in units of cells, the group of these; a line's strokes run through the middle of its cells.
-    fn say_phch<W: Write>(&self, out: &mut W, phch: Phch, y: u64) -> io::Result<()>
+    fn say_phch<W: Write>(
+        &self,
+        out: &mut W,
+        phch: Phch,
+        y: u64,
+        room: &mut [Look; MOST_PLACES],
+    ) -> io::Result<()>
         requires { y ≤ 690000000 }
     {
         let width = self.scale.cell_width();
@@ -121,8 +126,8 @@ impl Drawing<'_> {
             out,
             "<g id=\"{phch}\" transform=\"translate({LEFT} {middle})scale({width} {height})\">"
         )?;
-        let looks = self.looks(phch)?;
-        say_cells(out, looks.as_slice(), self.scale.line() as usize)?;
+        let looks = self.looks(phch, room);
+        say_cells(out, looks, self.scale.line() as usize)?;
         writeln!(out, "</g>")
     }
 
@@ -138,7 +143,13 @@ impl Drawing<'_> {
     }
 
     // The slots of a sub-frame, from y on: all capacities of the sheet, below the head of a slot its first; one of 0 is no PhCH.
-    fn say_slots<W: Write>(&self, out: &mut W, subframe: Option<u32>, y: u64) -> io::Result<()>
+    fn say_slots<W: Write>(
+        &self,
+        out: &mut W,
+        subframe: Option<u32>,
+        y: u64,
+        room: &mut [Look; MOST_PLACES],
+    ) -> io::Result<()>
         requires { y ≤ 340000000 }
     {
         let mut top = y;
@@ -153,7 +164,7 @@ impl Drawing<'_> {
                 if phch.number == 1 {
                     say_head(out, self.scale, top, phch.slot, self.logs(m / CODES))?;
                 }
-                self.say_phch(out, phch, top + head(m))?;
+                self.say_phch(out, phch, top + head(m), room)?;
             }
             top += self.scale.taken(m, *n);
         }
@@ -161,21 +172,28 @@ impl Drawing<'_> {
     }
 
     // One of two sub-frames, below its label, from y on.
-    fn say_subframe<W: Write>(&self, out: &mut W, subframe: u32, y: u64) -> io::Result<()>
+    fn say_subframe<W: Write>(
+        &self,
+        out: &mut W,
+        subframe: u32,
+        y: u64,
+        room: &mut [Look; MOST_PLACES],
+    ) -> io::Result<()>
         requires { y ≤ 339000000 }
     {
         say_text(out, "t", 10, y + 18, format_args!("sub-frame {subframe}"))?;
-        self.say_slots(out, Some(subframe), y + self.over())
+        self.say_slots(out, Some(subframe), y + self.over(), room)
     }
 
     // The frame, from y on.
     pub fn say<W: Write>(&self, out: &mut W, y: u64) -> io::Result<()>
         requires { y ≤ 1400000 }
     {
+        let mut room = [NOTHING; MOST_PLACES];
         if self.fields.lcr == 0 {
-            return self.say_slots(out, None, y);
+            return self.say_slots(out, None, y, &mut room);
         }
-        self.say_subframe(out, 1, y)?;
-        self.say_subframe(out, 2, self.subframe_bottom(y))
+        self.say_subframe(out, 1, y, &mut room)?;
+        self.say_subframe(out, 2, self.subframe_bottom(y), &mut room)
     }
 }

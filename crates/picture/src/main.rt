@@ -6,14 +6,14 @@
 use counters::refusal::Refusal;
 use counters::{FrameNumber, PhchNumber};
 use drawing::layout::Drawing;
+use drawing::pages::Pages;
 use drawing::scale::Scale;
 use legend::{FIRST, LINE, say_channels, say_marks, say_title};
 use refusal::say_refusal;
 use sheet::Sheet;
 use sheet::counts::LONGEST_FORM;
-use std::alloc::Global;
 use std::io;
-use std::io::{BufWriter, Write};
+use std::io::Write;
 use style::say_style;
 use ummervia::{name, sheet_read, sizes};
 
@@ -48,16 +48,10 @@ fn draw<W: Write>(out: &mut W, drawing: &Drawing<'_>, capacity: u64) -> io::Resu
     drawing.say(out, top)
 }
 
-fn picture<W: Write>(
-    out: &mut W,
-    alloc: Global,
-    sheet: &[u8],
-    frame: FrameNumber,
-) -> io::Result<()> {
+fn picture<W: Write>(out: &mut W, sheet: &[u8], frame: FrameNumber) -> io::Result<()> {
     match read(sheet, frame) {
         Ok((fields, capacity)) => {
             let drawing = Drawing {
-                alloc,
                 sheet,
                 fields: &fields,
                 frame,
@@ -77,7 +71,7 @@ fn main(rt: HostRuntime) -> io::Result<()> {
     let frame = argument::asked(&rt);
     let mut buffer = [0u8; LONGEST_FORM + 1];
     let n = input::read_full(&rt, &mut buffer)?;
-    let mut out = BufWriter::new(rt.alloc(), io::writer(&rt))?;
-    picture(&mut out, rt.alloc(), &buffer[..n], frame)?;
+    let mut out = Pages::new(io::writer(&rt));
+    picture(&mut out, &buffer[..n], frame)?;
     out.flush()
 }

@@ -4,11 +4,10 @@
 
 use crate::home::say_home;
 use crate::saying::{say_contents, say_frame, say_sheet};
-use crate::stops::{EXAMPLE, Stop, THREE_CHANNELS, TWO_CODES, TWO_SUBFRAMES};
+use crate::stops::{EXAMPLE, ROOM, Stop, THREE_CHANNELS, TWO_CODES, TWO_SUBFRAMES};
 use crate::trouble::Trouble;
-use std::alloc::Global;
 use std::io;
-use std::io::{BufWriter, Write};
+use std::io::Write;
 use ummervia::sheet_read;
 
 mod home;
@@ -22,24 +21,24 @@ A 0 is sent as +1, a 1 as -1. Of a bit its copies come home added; 0 says that n
 ";
 
 // The sheet, the contents, the last frame with the names of its places, and what came home.
-fn visit<W: Write>(out: &mut W, alloc: Global, stop: &Stop<'_>) -> Result<(), Trouble> {
+fn visit<W: Write>(out: &mut W, stop: &Stop<'_>) -> Result<(), Trouble> {
     say_sheet(out, stop)?;
     let fields = sheet_read(stop.sheet)?;
-    say_contents(out, &fields, stop.bits(alloc)?.as_slice())?;
-    say_frame(out, alloc, stop, &fields)?;
+    say_contents(out, &fields, stop.bits(&mut [0u8; ROOM]))?;
+    say_frame(out, stop, &fields)?;
     writeln!(out, "{}; what came home:", stop.sending)?;
-    say_home(out, alloc, stop, &fields)
+    say_home(out, stop, &fields)
 }
 
 fn main(rt: HostRuntime) -> io::Result<()> {
-    let mut out = BufWriter::new(rt.alloc(), io::writer(&rt))?;
+    let mut out = io::writer(&rt);
     out.write_all(INTRODUCTION.as_bytes())?;
     for stop in [&EXAMPLE, &THREE_CHANNELS, &TWO_CODES, &TWO_SUBFRAMES] {
-        match visit(&mut out, rt.alloc(), stop) {
+        match visit(&mut out, stop) {
             Ok(()) => {}
             Err(Trouble::Refused(refusal)) => writeln!(out, "refused {}", refusal.number())?,
             Err(Trouble::Output(e)) => return Err(e),
         }
     }
-    out.flush()
+    Ok(())
 }

@@ -1,12 +1,14 @@
 // What is printed of a sheet and of its frame.
-use crate::stops::Stop;
+ghost use Rattle.std.specs.Prelude.{◌<◌};
+ghost use Rattle.sheet.specs.Counts.{most_capacities};
+
+use crate::stops::{ROOM, Stop};
 use crate::trouble::Trouble;
 use counters::PhchNumber;
 use listing::list_sheet;
 use naming::PlaceName;
 use sheet::Sheet;
 use sheet::counts::CODES;
-use std::alloc::{AllocError, Global};
 use std::io::Write;
 use std::{fmt, io};
 use ummervia::{channel, name};
@@ -62,6 +64,20 @@ struct Phch {
     places: u16,
 }
 
+impl Phch {
+    // That of n places at index m of the sheet's capacities.
+    fn at(subframe: Option<u32>, m: usize, n: u16) -> Phch
+        requires { m < most_capacities }
+    {
+        Phch {
+            subframe,
+            slot: (m / CODES + 1) as u32,
+            number: (m % CODES + 1) as u32,
+            places: n,
+        }
+    }
+}
+
 impl fmt::Display for Phch {
     fn fmt<W: fmt::Write>(&self, f: &mut fmt::Formatter<W>) -> fmt::Result {
         if let Some(subframe) = self.subframe {
@@ -69,28 +85,6 @@ impl fmt::Display for Phch {
         }
         write!(f, "slot {} PhCH {}:", self.slot, self.number)
     }
-}
-
-// Those of a frame in their order: all capacities above 0, in each sub-frame.
-fn phchs_of(alloc: Global, fields: &Sheet) -> Result<Vec<Phch>, AllocError> {
-    let mut phchs = Vec::new(alloc);
-    for subframe in 0..u32::from(fields.lcr) + 1 {
-        for (m, n) in fields.caps.iter().enumerate() {
-            if *n > 0 {
-                phchs.push(Phch {
-                    subframe: if fields.lcr == 0 {
-                        None
-                    } else {
-                        Some(subframe + 1)
-                    },
-                    slot: (m / CODES + 1) as u32,
-                    number: (m % CODES + 1) as u32,
-                    places: *n,
-                })?;
-            }
-        }
-    }
-    Ok(phchs)
 }
 
 // A name as the legend says.
@@ -126,26 +120,57 @@ fn say_places<W: Write>(out: &mut W, stop: &Stop<'_>, phch: &Phch) -> Result<(),
     Ok(())
 }
 
-// The last frame: the bits of each physical channel, then the names of its places.
-pub fn say_frame<W: Write>(
+// The bits of each physical channel of a sub-frame, taken from the front of the rest.
+fn say_bits<W: Write>(
     out: &mut W,
-    alloc: Global,
+    fields: &Sheet,
+    subframe: Option<u32>,
+    rest: &mut &[u8],
+) -> io::Result<()> {
+    for (m, n) in fields.caps.iter().enumerate() {
+        if *n > 0 {
+            let phch = Phch::at(subframe, m, *n);
+            let bits = Bits::next(rest, *n);
+            writeln!(out, "{phch} {bits}")?;
+        }
+    }
+    Ok(())
+}
+
+// The names of the places of each.
+fn say_names<W: Write>(
+    out: &mut W,
     stop: &Stop<'_>,
     fields: &Sheet,
+    subframe: Option<u32>,
 ) -> Result<(), Trouble> {
-    let phchs = phchs_of(alloc, fields)?;
-    let frame = stop.frame(alloc, stop.last())?;
-    let mut rest = frame.as_slice();
+    for (m, n) in fields.caps.iter().enumerate() {
+        if *n > 0 {
+            let phch = Phch::at(subframe, m, *n);
+            write!(out, "{phch}")?;
+            say_places(out, stop, &phch)?;
+            writeln!(out)?;
+        }
+    }
+    Ok(())
+}
+
+// The last frame, sub-frame for sub-frame: the bits of each physical channel, then the names of its places.
+pub fn say_frame<W: Write>(out: &mut W, stop: &Stop<'_>, fields: &Sheet) -> Result<(), Trouble> {
+    let subframes: &[Option<u32>] = if fields.lcr == 0 {
+        &[None]
+    } else {
+        &[Some(1), Some(2)]
+    };
+    let mut room = [0u8; ROOM];
+    let mut rest = stop.frame(stop.last(), &mut room)?;
     writeln!(out, "frame number {}, the frame:", stop.last().number())?;
-    for phch in &phchs {
-        let bits = Bits::next(&mut rest, phch.places);
-        writeln!(out, "{phch} {bits}")?;
+    for subframe in subframes {
+        say_bits(out, fields, *subframe, &mut rest)?;
     }
     writeln!(out, "the name of each place:")?;
-    for phch in &phchs {
-        write!(out, "{phch}")?;
-        say_places(out, stop, phch)?;
-        writeln!(out)?;
+    for subframe in subframes {
+        say_names(out, stop, fields, *subframe)?;
     }
     Ok(())
 }

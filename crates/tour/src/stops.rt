@@ -1,9 +1,17 @@
 // What the tour stops at: four sheets, and what is sent by them.
 use crate::trouble::Trouble;
 use counters::FrameNumber;
-use std::alloc::{AllocError, Global};
 use std::ops::Range;
 use ummervia::{build, sizes};
+
+// The most bits or values of anything that a stop sends or takes home. A room of these is lent, and what is put there is a part of it.
+pub const ROOM: usize = 70;
+
+// The first n of a room, or all where there are fewer: what is too short the library refuses.
+pub fn first<T>(room: &mut [T], n: usize) -> &mut [T] {
+    let n = n.min(room.len());
+    &mut room[..n]
+}
 
 // A sheet and the contents that are sent, as a text of 0 and 1, in the frames from `first` to `last`. Of the last one nothing is heard at the
 // silent places, which are counted from 0.
@@ -25,24 +33,20 @@ impl Stop<'_> {
     }
 
     // The bits of the contents.
-    pub fn bits(&self, alloc: Global) -> Result<Vec<u8>, AllocError> {
-        self.contents
-            .bytes()
-            .map(|digit| u8::from(digit == b'1'))
-            .collect(alloc)
+    pub fn bits<'r>(&self, room: &'r mut [u8]) -> &'r [u8] {
+        let bits = first(room, self.contents.len());
+        for (bit, digit) in bits.iter_mut().zip(self.contents.bytes()) {
+            *bit = u8::from(digit == b'1');
+        }
+        bits
     }
 
     // The frame that carries them.
-    pub fn frame(&self, alloc: Global, number: FrameNumber) -> Result<Vec<u8>, Trouble> {
-        let contents = self.bits(alloc)?;
-        let sizes = sizes(self.sheet)?;
-        let mut frame = vec![in alloc; 0u8; sizes.capacity as usize]?;
-        build(
-            self.sheet,
-            number,
-            contents.as_slice(),
-            frame.as_mut_slice(),
-        )?;
+    pub fn frame<'r>(&self, number: FrameNumber, room: &'r mut [u8]) -> Result<&'r [u8], Trouble> {
+        let mut bits = [0u8; ROOM];
+        let contents = self.bits(&mut bits);
+        let frame = first(room, sizes(self.sheet)?.capacity as usize);
+        build(self.sheet, number, contents, frame)?;
         Ok(frame)
     }
 }

@@ -1,6 +1,5 @@
 // Why a stop of the tour ends before all is printed.
 use counters::refusal::Refusal;
-use std::alloc::AllocError;
 use std::io;
 
 #[derive(Debug, Drop)]
@@ -18,11 +17,5 @@ impl From<Refusal> for Trouble {
 impl From<io::Error> for Trouble {
     fn from(e: io::Error) -> Trouble {
         Trouble::Output(e)
-    }
-}
-
-impl From<AllocError> for Trouble {
-    fn from(e: AllocError) -> Trouble {
-        Trouble::Output(io::Error::from(e))
     }
 }
