@@ -21,13 +21,14 @@ pub record Spanned (phchs caps : List ℕ) (t a most : ℕ) : Type 0 where
   pub codes : get_or phchs t 0 ≤ most_codes
   pub room : a + (slot_load caps (most_codes * t) (get_or phchs t 0)).sum ≤ most
 
--- where its capacities stand, and where its part ends
+-- where its capacities stand, where its part ends, and the slot after it
 pub record Spans (phchs caps : List ℕ) (t a most : ℕ) (s : Span) : Type 0 where
   pub from : s.from ≡ most_codes * t
   pub to : s.to ≡ most_codes * t + get_or phchs t 0
   pub few : s.to ≤ most_capacities
   pub end : s.end ≡ a + (slot_load caps (most_codes * t) (get_or phchs t 0)).sum
   pub within : s.end ≤ most
+  pub next : s.next ≡ t + 1
 
 -- where a is where a slot of c places begins in its sub-frame, which has w: what step 8 interleaves together with its bits of sub-frame h of k, and at
 -- which index of that, when it is interleaved, they begin. Mode 0: all bits; mode 1: the slot's share

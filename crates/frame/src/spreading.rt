@@ -10,12 +10,13 @@ use mapping::{Runs, runs_of};
 use sheet::Sheet;
 use sheet::counts::{CODES, PAIRED};
 
-// A slot: its capacities stand from `from` up to `to` in the array of all, and its part of the frame ends at `end`.
+// A slot: its capacities stand from `from` up to `to` in the array of all, its part of the frame ends at `end`, and slot `next` comes after it.
 #[derive(Clone, Copy)]
 pub struct Span {
     pub from: usize,
     pub to: usize,
     pub end: usize,
+    pub next: usize,
 }
 
 // Of slot t, whose part begins at a and ends at `most` or before.
@@ -26,7 +27,12 @@ pub fn span_of(fields: &Sheet, t: usize, a: usize, most: usize) -> Span
     let from = CODES * t;
     let to = from + usize::from(fields.phchs[t]);
     let end = a + fields.slot_load(t).sum as usize;
-    Span { from, to, end }
+    Span {
+        from,
+        to,
+        end,
+        next: t + 1,
+    }
 }
 
 // What step 8 interleaves together with a slot's bits: it stands from `from` up to `to` among the multiplexed ones. Interleaved, it has those of the

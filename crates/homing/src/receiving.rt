@@ -5,7 +5,7 @@ ghost use Rattle.std.specs.Fn.{TakesAt, CalledAt};
 ghost use Rattle.sheet.specs.Counts.{most_bits};
 ghost use Rattle.sheet.specs.Sizes.{size_of, capacity_all, equalised_all};
 ghost use Rattle.sheet.specs.Range.{Accepted};
-ghost use Rattle.frame.specs.Room.{middle_frame};
+ghost use Rattle.frame.specs.Room.{middle_frame, room_of};
 ghost use Rattle.homing.specs.Gather.{gathered};
 ghost use Rattle.homing.specs.Home.{taken_back_of, heard_at, link_in};
 
@@ -25,7 +25,7 @@ fn receive_in<const ROOM: usize, R, F: FnMut(&[f32]) -> R>(
     fields: &Sheet,
     take: &mut F,
 ) -> R
-    requires { Accepted fields.now × (length frame.now ≡ capacity_all fields.now) × (length frame.now ≤ ROOM) × (ROOM ≤ most_bits) × TakesAt F.FnMut take.old (gathered nan fields.now frame.now) }
+    requires { Accepted fields.now × (length frame.now ≡ capacity_all fields.now) × (length frame.now ≤ ROOM) × (ROOM ≤ most_bits) × (ROOM ≡ room_of (length frame.now)) × TakesAt F.FnMut take.old (gathered nan fields.now frame.now) }
     ensures { CalledAt F.FnMut take.old (gathered nan fields.now frame.now) result take.new }
 {
     let mut room = [1.0f32; ROOM];
@@ -37,6 +37,7 @@ fn receive_in<const ROOM: usize, R, F: FnMut(&[f32]) -> R>(
 // Of a frame of at most MIDDLE places. With the rooms of all sizes in one function the smallest frame would touch the largest one's stack
 // (docs/SPEED.md), so this function and the next are not to be drawn into their caller.
 #[inline(never)]
+#[tactic(auto, unfolding(frame::specs::Room::room_of))]
 fn receive_near<R, F: FnMut(&[f32]) -> R>(frame: &[f32], fields: &Sheet, take: &mut F) -> R
     requires { Accepted fields.now × (length frame.now ≡ capacity_all fields.now) × (length frame.now ≤ middle_frame) × TakesAt F.FnMut take.old (gathered nan fields.now frame.now) }
     ensures { CalledAt F.FnMut take.old (gathered nan fields.now frame.now) result take.new }
@@ -51,8 +52,9 @@ fn receive_near<R, F: FnMut(&[f32]) -> R>(frame: &[f32], fields: &Sheet, take: &
 }
 
 #[inline(never)]
+#[tactic(auto, unfolding(frame::specs::Room::room_of))]
 fn receive_far<R, F: FnMut(&[f32]) -> R>(frame: &[f32], fields: &Sheet, take: &mut F) -> R
-    requires { Accepted fields.now × (length frame.now ≡ capacity_all fields.now) × TakesAt F.FnMut take.old (gathered nan fields.now frame.now) }
+    requires { Accepted fields.now × (length frame.now ≡ capacity_all fields.now) × (middle_frame < length frame.now) × TakesAt F.FnMut take.old (gathered nan fields.now frame.now) }
     ensures { CalledAt F.FnMut take.old (gathered nan fields.now frame.now) result take.new }
 {
     if frame.len() <= LARGE {
