@@ -27,7 +27,7 @@ module _ {A : Type 0} (g : ℕ → List A) (L : ℕ → ℕ) where
       ∙ sym (h.next n (omega arith))
 
   -- a list ends before the next one begins
-  ends_before : (n i : ℕ) → Begins g L n → i < n → L i + length (g i) ≤ L n
+  pub ends_before : (n i : ℕ) → Begins g L n → i < n → L i + length (g i) ≤ L n
   ends_before zero i h l = absurd (omega arith)
   ends_before (suc n) i h l = side (ℕ_discrete i n) (ends_before n i (fewer g L n h))
     where

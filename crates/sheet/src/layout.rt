@@ -1,20 +1,34 @@
 // Where the fields of a sheet stand in its bits, and how wide they are; specs/Layout.antt has the same for the definitions.
 
 // The head: version, mode, I-1 without its top bit, T, uplink, 1.28 Mcps, the top bit of I-1, a spare bit.
+pub const VERSION_AT: usize = 0;
+
 pub const VERSION_WIDTH: usize = 4;
 
+pub const MODE_AT: usize = 4;
+
 pub const MODE_WIDTH: usize = 1;
+
+pub const COUNT_AT: usize = 5;
 
 pub const COUNT_WIDTH: usize = 3;
 
 // What the top bit of I-1 is worth: 2 to the power COUNT_WIDTH.
 pub const TOP_COUNTS: u64 = 8;
 
+pub const SLOTS_AT: usize = 8;
+
 pub const SLOTS_WIDTH: usize = 4;
+
+pub const UPLINK_AT: usize = 12;
 
 pub const UPLINK_WIDTH: usize = 1;
 
+pub const LCR_AT: usize = 13;
+
 pub const LCR_WIDTH: usize = 1;
+
+pub const TOP_AT: usize = 14;
 
 pub const TOP_WIDTH: usize = 1;
 

@@ -44,7 +44,7 @@ impl Sheet {
     }
 
     // Whether a slot of the sheet is; in downlink none is asked.
-    fn beyond_uplink(&self) -> bool
+    pub fn beyond_uplink(&self) -> bool
         requires { Ranged self.now }
         ensures { result ≡ beyond_uplink self.now }
     {

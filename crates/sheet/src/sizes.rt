@@ -1,5 +1,5 @@
 // The sizes that a sheet's fields give.
-ghost use Rattle.std.specs.Prelude.{◌≡◌, ◌*◌, ◌≤◌, ◌<◌};
+ghost use Rattle.std.specs.Prelude.{◌≡◌, ℕ, ◌*◌, ◌≤◌, ◌<◌};
 ghost use Rattle.sheet.specs.Counts.{most_channels, most_slots, most_codes, most_capacities, most_subframes, most_tti, most_frames, most_needed, longest_form};
 ghost use Rattle.sheet.specs.Layout.{slot_width};
 ghost use Rattle.sheet.specs.Fields.{phchs_of};
@@ -100,7 +100,7 @@ impl Sheet {
 
     // What the capacities of all slots come to.
     pub fn load(&self) -> Load
-        requires { Ranged self.now }
+        requires { (self.now.slots ≤ most_slots) × ((t : ℕ) → t < self.now.slots → phchs_of self.now t ≤ most_codes) }
         ensures { (result ≡ load_of self.now) × (result.sum ≤ 65535 * most_capacities) }
     {
         let mut empty = false;

@@ -14,9 +14,9 @@ use counters::refusal::Refusal;
 use sheet::Sheet;
 use sheet::counts::{CODES, LONGEST_FORM, PAIRED};
 use sheet::layout::{
-    CAPACITY_WIDTH, CODES_WIDTH, COUNT_WIDTH, ENCODED_WIDTH, LCR_WIDTH, LOG_WIDTH, MODE_WIDTH,
-    RATIO_WIDTH, SLOTS_WIDTH, SPARE_WIDTH, TOP_COUNTS, TOP_WIDTH, TTI_WIDTH, UPLINK_WIDTH,
-    VERSION_WIDTH,
+    CAPACITY_WIDTH, CODES_WIDTH, COUNT_AT, COUNT_WIDTH, ENCODED_WIDTH, LCR_AT, LCR_WIDTH,
+    LOG_WIDTH, MODE_AT, MODE_WIDTH, RATIO_WIDTH, SLOTS_AT, SLOTS_WIDTH, SPARE_AT, SPARE_WIDTH,
+    TOP_AT, TOP_COUNTS, TOP_WIDTH, TTI_WIDTH, UPLINK_AT, UPLINK_WIDTH, VERSION_AT, VERSION_WIDTH,
 };
 
 // The bits of a sheet, one to a byte: so many are written, and the others are 0.
@@ -42,13 +42,21 @@ impl Bits {
         ensures { BitsWritten self.new (head_bits fields.now) }
     {
         let last = u64::from(fields.channels) - 1;
+        prove!(self.at == VERSION_AT);
         self.put(VERSION_WIDTH, u64::from(fields.version));
+        prove!(self.at == MODE_AT);
         self.put(MODE_WIDTH, u64::from(fields.mode));
+        prove!(self.at == COUNT_AT);
         self.put(COUNT_WIDTH, last % TOP_COUNTS);
+        prove!(self.at == SLOTS_AT);
         self.put(SLOTS_WIDTH, u64::from(fields.slots));
+        prove!(self.at == UPLINK_AT);
         self.put(UPLINK_WIDTH, u64::from(fields.uplink));
+        prove!(self.at == LCR_AT);
         self.put(LCR_WIDTH, u64::from(fields.lcr));
+        prove!(self.at == TOP_AT);
         self.put(TOP_WIDTH, last / TOP_COUNTS);
+        prove!(self.at == SPARE_AT);
         self.put(SPARE_WIDTH, 0);
     }
 

@@ -11,16 +11,16 @@ unfolding sum_to any_to
 loop-t-init c = (omega arith, refl, refl, omega arith)
 
 pub slot_load-one-requires : goal.slot_load-one-requires
-slot_load-one-requires c = (omega (arith, c.requires.few_slots), c.requires.phch16 c.loop-t.t (omega arith))
+slot_load-one-requires c = (omega (arith, c.requires.0), c.requires.1 c.loop-t.t (omega arith))
 
 pub overflow_add-sum : goal.overflow_add-sum
-overflow_add-sum c = omega (arith, c.requires.few_slots, c.requires.phch16 c.loop-t.t (omega arith))
+overflow_add-sum c = omega (arith, c.requires.0, c.requires.1 c.loop-t.t (omega arith))
 
 pub loop-t-preserved : goal.loop-t-preserved
 loop-t-preserved c =
     let l = c.loop-t in
     let e = c.slot_load-one.ensures.0 in
-    let b = c.requires.phch16 l.t (omega arith) in (
+    let b = c.requires.1 l.t (omega arith) in (
       omega arith,
       any_next _ l.t l.invariant.1 (ap (λ (x : Load). x.empty) e),
       sum_more _ l.t l.invariant.2 (ap (λ (x : Load). x.sum) e),
@@ -31,4 +31,4 @@ pub returns : goal.returns
 returns c =
     let l = c.loop-t in
     let e : l.t ≡ c.args.self.now.slots = omega arith in
-    (load_same (l.invariant.1 ∙ ap (any_to _) e) (l.invariant.2 ∙ ap (sum_to _) e), omega (arith, c.requires.few_slots))
+    (load_same (l.invariant.1 ∙ ap (any_to _) e) (l.invariant.2 ∙ ap (sum_to _) e), omega (arith, c.requires.0))
