@@ -25,7 +25,7 @@ returns-in_err-opened c =
     let head = frame_lines s a.number.0 in
     let e = number_first head (line bad 10 ∷ []) r n.0 in
     let l = looks_early in_range (head ++ line bad 10 ∷ []) (listened s a.number.0 bad) a.frame.now (capacity_all sh) 0 0 Link r e n.1 in
-    rw (p.1, p.2) (link_refused s a.number.0 a.frame.now a.trch.0 r l.0 l.1)
+    rw (p.1, p.2) (search (link_refused s a.number.0 a.frame.now a.trch.0 r l.0 l.1))
 
 pub returns-in_err-look_soft : goal.returns-in_err-look_soft
 returns-in_err-look_soft c =
@@ -44,4 +44,4 @@ returns-in_err-look_soft c =
     let l =
     looks_late in_range (head ++ line bad 10 ∷ []) (listened s a.number.0 bad) a.frame.now (capacity_all sh) 0 0 {B = Link} z (Err r)
     (rw (← d) c.in_err-look_soft.ensures.number) in
-    rw (p.1, p.2) (link_refused s a.number.0 a.frame.now k r l.0 l.1)
+    rw (p.1, p.2) (search (link_refused s a.number.0 a.frame.now k r l.0 l.1))
