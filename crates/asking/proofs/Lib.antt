@@ -1,3 +1,4 @@
 pub mod AskLaws
+pub mod NameLaws
 pub mod PartLaws
 pub mod Unique

@@ -1,8 +1,10 @@
 // What a sheet's numbers are: its sizes, and those of one channel. A part and a name are asked for in the modules.
 #![tactic(auto)]
 
-ghost use Rattle.std.specs.Prelude.{◌≡◌, ◌<◌};
-ghost use Rattle.counters.specs.Refusals.{answer_index};
+ghost use Rattle.std.specs.Prelude.{◌≡◌, ◌-◌, ◌<◌, [], ◌∷◌, IfOk};
+ghost use Rattle.counters.specs.Lines.{line};
+ghost use Rattle.counters.specs.Refusals.{Refuses, answer_index};
+ghost use Rattle.looking.specs.Looking.{no_trch};
 ghost use Rattle.asking.specs.Asking.{sizes_given, sizes_in, no_sizes, sizes_left, sizes_answer, channel_given, channel_in, channel_left, channel_answer};
 
 pub mod name;
@@ -11,7 +13,7 @@ pub mod part;
 use counters::TrchNumber;
 use counters::refusal::Refusal;
 use looking::find_trch;
-use opening::{Opened, open_sheet};
+use opening::{Opened, with_sheet};
 use sheet::sizes::frames;
 
 // The sizes that a caller lends buffers by.
@@ -67,8 +69,7 @@ fn sizes_of(opened: &Opened) -> SheetSizes
 pub fn sizes(bytes: &[u8]) -> Result<SheetSizes, Refusal>
     ensures { (sizes_left result ≡ sizes_answer bytes.now) × (answer_index result ≡ 0) }
 {
-    let opened = open_sheet(bytes)?;
-    Ok(sizes_of(&opened))
+    with_sheet(bytes, |opened| Ok(sizes_of(opened)))
 }
 
 fn channel_of(opened: &Opened, i: usize) -> ChannelSizes
@@ -84,11 +85,17 @@ fn channel_of(opened: &Opened, i: usize) -> ChannelSizes
     }
 }
 
+fn find_channel(opened: &Opened, trch: TrchNumber) -> Result<ChannelSizes, Refusal>
+    ensures number { Refuses (line (no_trch opened.now.fields trch.0) 10 ∷ []) result }
+    ensures sizes { IfOk result (λ c. channel_given c ≡ channel_in opened.now.fields (trch.0 - 1)) }
+{
+    let i = find_trch(&opened.fields, trch)?;
+    Ok(channel_of(opened, i))
+}
+
 // F, E, N and V of a channel.
 pub fn channel(bytes: &[u8], trch: TrchNumber) -> Result<ChannelSizes, Refusal>
     ensures { (channel_left result ≡ channel_answer bytes.now trch.0) × (answer_index result ≡ 0) }
 {
-    let opened = open_sheet(bytes)?;
-    let i = find_trch(&opened.fields, trch)?;
-    Ok(channel_of(&opened, i))
+    with_sheet(bytes, |opened| find_channel(opened, trch))
 }

@@ -1,12 +1,28 @@
 // The name of a place: nothing is built.
-ghost use Rattle.std.specs.Prelude.{◌≡◌};
-ghost use Rattle.counters.specs.Refusals.{answer_index};
+ghost use Rattle.std.specs.Prelude.{◌≡◌, [], ◌∷◌, IfOk, not, ltb};
+ghost use Rattle.counters.specs.Lines.{line};
+ghost use Rattle.counters.specs.Refusals.{Refuses, answer_index};
+ghost use Rattle.naming.specs.Name.{name_of, name_in, has_place};
+ghost use Rattle.looking.specs.Looking.{last_frame};
 ghost use Rattle.asking.specs.Naming.{naming_left, name_answer};
 
 use counters::refusal::Refusal;
 use counters::{FrameNumber, PhchNumber};
-use looking::open_frame;
+use looking::check_frame;
 use naming::{Place, PlaceName};
+use opening::{Opened, with_sheet};
+
+fn find_name(opened: &Opened, frame: FrameNumber, place: Place) -> Result<PlaceName, Refusal>
+    ensures number { Refuses (line (ltb last_frame frame.0) 9 ∷ line (not (has_place opened.now.fields place.subframe place.slot place.phch.0 place.place)) 10 ∷ []) result }
+    ensures name { IfOk result (λ n. name_in n ≡ name_of opened.now.fields frame.0 place.subframe place.slot place.phch.0 place.place) }
+{
+    check_frame(frame)?;
+    if place.exists(&opened.fields) {
+        Ok(place.name(opened, frame))
+    } else {
+        Err(Refusal::Missing)
+    }
+}
 
 // Which copy of which bit of which channel stands at a place.
 pub fn name(
@@ -19,16 +35,11 @@ pub fn name(
 ) -> Result<PlaceName, Refusal>
     ensures { (naming_left result ≡ name_answer bytes.now frame.0 subframe slot phch.0 place) × (answer_index result ≡ 0) }
 {
-    let opened = open_frame(bytes, frame)?;
     let place = Place {
         subframe,
         slot,
         phch,
         place,
     };
-    if place.exists(&opened.fields) {
-        Ok(place.name(&opened, frame))
-    } else {
-        Err(Refusal::Missing)
-    }
+    with_sheet(bytes, |opened| find_name(opened, frame, place))
 }

@@ -1,22 +1,25 @@
 -- Laws of calls that open a sheet, look at lent values and write others.
-use mathlib.Core.Path.{◌≡◌, refl, sym, ap, ◌∙◌}
+use mathlib.Core.Path.{◌≡◌, refl, sym, ap, subst, ◌∙◌}
 use mathlib.Core.Bool.{Bool, true, false, not, ◌&&◌, ◌||◌, cond}
 use mathlib.Core.List.{List, [], ◌∷◌, ◌++◌}
 use Prim.Native.Nat.{ℕ, ◌-◌, ◌≤◌, ◌<◌}
 use native.Mathlib.Omega.{arith}
 use borrow.Author.Tests.{ne_eqb, eqb-false, ltb-true, ltb-false, not-true}
 use lib.Dec.{eqb, ltb}
-use Rattle.std.specs.Prelude.{Result, Err}
+use Rattle.std.specs.Prelude.{Result, Ok, Err, IfOk}
 use Rattle.laws.specs.FirstFail.{first_fail}
 use Rattle.laws.proofs.TestLaws.{or_left, or_right}
 use Rattle.counters.specs.Lines.{Line, line, first_of, given}
-use Rattle.counters.specs.Refusals.{refusal_number, refusal_at}
+use Rattle.counters.specs.Refusals.{refusal_number, refusal_at, Refuses}
 use Rattle.counters.specs.declared.refusal.Refusal.{Refusal}
 use Rattle.counters.proofs.CountLaws.{both_true}
 use Rattle.counters.proofs.LineLaws.{Numbered, none, more, each, clear_of, append_clear, first-append, given_yes, given_no}
 use Rattle.counters.proofs.RefusalLaws.{refusal_positive}
+use Rattle.sheet.specs.Fields.{sheet_of}
 use Rattle.sheet.specs.Numbers.{read_lines}
 use Rattle.sheet.specs.declared.Sheet.{Sheet}
+use Rattle.opening.specs.Opening.{AsOpened, refused, opened}
+use Rattle.opening.specs.declared.Opened.{Opened}
 use Rattle.looking.specs.Outcome.{outcome}
 use Rattle.looking.specs.Looking.{last_frame, frame_lines, no_trch, look_lines, indexed, looked, Looks}
 
@@ -87,6 +90,21 @@ number_first xs ys r e = e ∙ first-append xs ys (λ q. omega (arith, e, q, ref
 
 pub number_second : {xs : List Line} (ys : List Line) → Numbered xs → 0 ≡ first_of xs → {n : ℕ} → n ≡ first_of ys → n ≡ first_of (xs ++ ys)
 number_second ys p z e = e ∙ sym (append_clear ys (clear_of p (sym z)))
+
+-- what is lent an opened sheet, and refuses by lines of its own: behind the others
+pub opened_refuses : {A : Type 0} (xs : List Line) → Numbered xs → (s : List ℕ) (tail : Sheet → List Line) (P : Opened → Type 0) (x : Result A Refusal) →
+    AsOpened xs s P x → ((o : Opened) → P o → Refuses (tail o.fields) x) → Refuses (xs ++ tail (sheet_of s)) x
+opened_refuses xs p s tail P x (refused n e) k = (e.0 ∙ first-append xs (tail (sheet_of s)) n, e.1)
+opened_refuses xs p s tail P x (opened o f z h) k =
+    let e = k o h in
+    (number_second (tail (sheet_of s)) p (sym z) (e.0 ∙ ap (λ (sh : Sheet). first_of (tail sh)) f), e.1)
+
+-- and what it says of the opened sheet's fields it says of the bytes' own
+pub opened_says : {A : Type 0} (xs : List Line) (s : List ℕ) (Q : Sheet → A → Type 0) (P : Opened → Type 0) (x : Result A Refusal) →
+    AsOpened xs s P x → ((o : Opened) → P o → IfOk x (Q o.fields)) → IfOk x (Q (sheet_of s))
+opened_says xs s Q P (Ok y) (refused n e) k = absurd (n (sym e.0))
+opened_says xs s Q P (Err r) (refused n e) k = tt
+opened_says xs s Q P x (opened o f z h) k = subst (λ (sh : Sheet). IfOk x (Q sh)) f (k o h)
 
 -- what is given with a refusal's number, and with 0
 module _ {X : Type 0} (n : ℕ) (yes no : X) where

@@ -1,29 +1,43 @@
 // What several calls ask first: the sheet, the frame number, the channel, the lengths, and that the values lent are bits or in range.
 #![tactic(auto)]
 
-ghost use Rattle.std.specs.Prelude.{◌≡◌, ◌-◌, ◌<◌, [], ◌∷◌, IfOk, length};
+ghost use Rattle.std.specs.Prelude.{◌≡◌, ◌-◌, ◌<◌, [], ◌∷◌, IfOk, length, ltb};
 ghost use Rattle.counters.specs.Lines.{line};
 ghost use Rattle.counters.specs.Refusals.{Refuses};
 ghost use Rattle.sheet.specs.Fields.{sheet_of};
 ghost use Rattle.joining.specs.Range.{in_range};
 ghost use Rattle.frame.specs.Bit.{is_bit};
-ghost use Rattle.looking.specs.Looking.{frame_lines, no_trch, not_long, Looks, Pointed};
+ghost use Rattle.looking.specs.Looking.{last_frame, frame_lines, no_trch, not_long, Looks, Pointed};
 
 use counters::refusal::Refusal;
 use counters::{FrameNumber, TrchNumber};
 use frame::checking::first_bad;
 use joining::checking::first_out;
-use opening::{Opened, open_unless};
+use opening::{Opened, with_sheet};
 use sheet::Sheet;
 
 pub const LAST_FRAME: u32 = 255;
+
+// Number 9: whether the frame number is one.
+pub fn check_frame(frame: FrameNumber) -> Result<(), Refusal>
+    ensures { Refuses (line (ltb last_frame frame.0) 9 ∷ []) result }
+{
+    if frame.is_over(LAST_FRAME) {
+        Err(Refusal::LateFrame)
+    } else {
+        Ok(())
+    }
+}
 
 // The sheet's own numbers, then 9.
 pub fn open_frame(bytes: &[u8], frame: FrameNumber) -> Result<Opened, Refusal>
     ensures number { Refuses (frame_lines bytes.now frame.0) result }
     ensures opened { IfOk result (λ o. o.fields ≡ sheet_of bytes.now) }
 {
-    open_unless(bytes, frame.is_over(LAST_FRAME))
+    with_sheet(bytes, |opened| {
+        check_frame(frame)?;
+        Ok(*opened)
+    })
 }
 
 // Number 10: where TrCH k, counted from 1, stands among the channels.

@@ -1,23 +1,18 @@
 // A sheet opened once: its fields, and the numbers that every frame needs of them.
 #![tactic(auto)]
 
-ghost use Rattle.std.specs.Prelude.{◌≡◌, [], ◌∷◌, ◌++◌, ◌≤◌, ◌<◌, IfOk};
-ghost use Rattle.counters.specs.Lines.{line};
-ghost use Rattle.counters.specs.Refusals.{Refuses};
+ghost use Rattle.std.specs.Prelude.{◌≡◌, ◌≤◌, ◌<◌};
 ghost use Rattle.sheet.specs.Counts.{most_bits};
-ghost use Rattle.sheet.specs.Fields.{sheet_of};
 ghost use Rattle.sheet.specs.Sizes.{capacity_all};
-ghost use Rattle.sheet.specs.Numbers.{read_lines};
 ghost use Rattle.sheet.specs.Range.{Ranged, Accepted};
 ghost use Rattle.matching.specs.Shares.{cuts_of, share_of, channel_of};
 ghost use Rattle.opening.specs.Opened.{sizes_of};
 
-use counters::refusal::Refusal;
-use matching::shares::cuts;
+pub mod lending;
+
+pub use lending::{open_sheet, with_sheet};
 use sheet::Sheet;
 use sheet::counts::CHANNELS;
-use sheet::fields::read_fields;
-use sheet::reading::check_bytes;
 use sheet::sizes::segment;
 
 // The fields of an accepted sheet; N of each channel, 0 past I; Z_0 to Z_I, 0 past them. N is at most E and Z at most D, so that 16 bits hold each.
@@ -41,34 +36,6 @@ fn sizes(fields: &Sheet) -> [u16; CHANNELS]
         all[i] = segment(fields.e[i], fields.tti[i]) as u16;
     }
     all
-}
-
-// Opens a sheet's bytes, or refuses with 9 behind the sheet's own numbers where the frame number is late: asked here, a sheet that is opened for a frame is
-// not moved once more.
-pub fn open_unless(bytes: &[u8], late: bool) -> Result<Opened, Refusal>
-    ensures number { Refuses (read_lines bytes.now ++ line late 9 ∷ []) result }
-    ensures opened { IfOk result (λ o. o.fields ≡ sheet_of bytes.now) }
-{
-    let fields = read_fields(bytes);
-    let w = check_bytes(bytes, &fields)?;
-    if late {
-        return Err(Refusal::LateFrame);
-    }
-    let d = fields.frame_places(w);
-    // Calculated where they stand, and the fields last: with a variable for either the fields would be copied once more.
-    Ok(Opened {
-        sizes: sizes(&fields),
-        cuts: cuts(&fields, d),
-        fields,
-    })
-}
-
-// Opens a sheet's bytes: every call begins with this.
-pub fn open_sheet(bytes: &[u8]) -> Result<Opened, Refusal>
-    ensures number { Refuses (read_lines bytes.now) result }
-    ensures opened { IfOk result (λ o. o.fields ≡ sheet_of bytes.now) }
-{
-    open_unless(bytes, false)
 }
 
 impl Opened {

@@ -1,27 +1,23 @@
-use mathlib.Core.Path.{sym, ap₂, ◌∙◌}
 use mathlib.Core.Bool.{not}
 use mathlib.Core.List.{[], ◌∷◌}
-use Rattle.std.proofs.lemmas.Result.{err_from_is_err_and}
+use lib.Dec.{ltb}
+use Rattle.std.proofs.Common.{rules, ◌≡◌}
 use Rattle.counters.specs.Lines.{line}
-use Rattle.sheet.specs.Fields.{sheet_of}
-use Rattle.naming.specs.Name.{has_place}
-use Rattle.naming.proofs.ExistLaws.{exists}
-use Rattle.looking.specs.Looking.{frame_lines}
-use Rattle.looking.proofs.LookLaws.{number_first, given_refused}
-use Rattle.asking.specs.Naming.{naming, name_number}
+use Rattle.sheet.specs.Numbers.{read_lines}
+use Rattle.sheet.proofs.NumberLaws.{read_numbered}
+use Rattle.naming.specs.Name.{name_of, name_in, has_place}
+use Rattle.looking.specs.Looking.{last_frame}
+use Rattle.looking.proofs.LookLaws.{opened_refuses, opened_says}
+use Rattle.asking.proofs.NameLaws.{name_from}
 use Rattle.asking.proofs.name.name.Goals as goal
 
-pub returns-in_err-opened : goal.returns-in_err-opened
-returns-in_err-opened c =
+pub returns : goal.returns
+returns c =
     let a = c.args in
-    let p = err_from_is_err_and c.from_residual.result c.from_residual.ensures.1 in
-    let n = c.in_err-opened.ensures.number in
-    let r = c.in_err-opened.field-0.0 in
     let s = a.bytes.now in
-    let e = number_first (frame_lines s a.frame.0) (line (not (has_place (sheet_of s) a.subframe a.slot a.phch.0 a.place)) 10 ∷ []) r n.0 in
-    rw (p.1, p.2) (ap₂ naming e (given_refused (name_number s a.frame.0 a.subframe a.slot a.phch.0 a.place) _ _ r e), n.1)
-
-pub name-requires : goal.name-requires
-name-requires c =
-    let a = c.args in
-    (exists c.in_ok-opened.opened.fields a.subframe a.slot a.phch.0 a.place).0 (sym c.exists.ensures ∙ c.if-exists.true)
+    let f = a.frame.0 in
+    let x = c.with_sheet.result in
+    let w = c.with_sheet.ensures in
+    name_from s f a.subframe a.slot a.phch.0 a.place x
+    (opened_refuses (read_lines s) (read_numbered s) s (λ sh. line (ltb last_frame f) 9 ∷ line (not (has_place sh a.subframe a.slot a.phch.0 a.place)) 10 ∷ []) _ x w (λ o p. search rules))
+    (opened_says (read_lines s) s (λ sh z. name_in z ≡ name_of sh f a.subframe a.slot a.phch.0 a.place) _ x w (λ o p. search rules))
