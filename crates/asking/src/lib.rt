@@ -85,6 +85,7 @@ fn channel_of(opened: &Opened, i: usize) -> ChannelSizes
     }
 }
 
+// 10; and the numbers of the channel.
 fn find_channel(opened: &Opened, trch: TrchNumber) -> Result<ChannelSizes, Refusal>
     ensures number { Refuses (line (no_trch opened.now.fields trch.0) 10 ∷ []) result }
     ensures sizes { IfOk result (λ c. channel_given c ≡ channel_in opened.now.fields (trch.0 - 1)) }

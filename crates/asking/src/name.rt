@@ -12,6 +12,7 @@ use looking::check_frame;
 use naming::{Place, PlaceName};
 use opening::{Opened, with_sheet};
 
+// What is asked behind the sheet's own numbers: 9, then 10; and the name.
 fn find_name(opened: &Opened, frame: FrameNumber, place: Place) -> Result<PlaceName, Refusal>
     ensures number { Refuses (line (ltb last_frame frame.0) 9 ∷ line (not (has_place opened.now.fields place.subframe place.slot place.phch.0 place.place)) 10 ∷ []) result }
     ensures name { IfOk result (λ n. name_in n ≡ name_of opened.now.fields frame.0 place.subframe place.slot place.phch.0 place.place) }

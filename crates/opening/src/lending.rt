@@ -32,7 +32,7 @@ pub fn with_sheet<R, F: FnOnce(&Opened) -> Result<R, Refusal>>(
     take(&opened)
 }
 
-// Opens a sheet's bytes: what a call begins with that works on a whole frame.
+// The same, answered: what a call begins with that is lent values, beside whose work the moves are little.
 pub fn open_sheet(bytes: &[u8]) -> Result<Opened, Refusal>
     ensures number { Refuses (read_lines bytes.now) result }
     ensures opened { IfOk result (λ o. o.fields ≡ sheet_of bytes.now) }
